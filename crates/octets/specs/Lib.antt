@@ -1,0 +1,4 @@
+pub mod Cases
+pub mod Octets
+pub mod Splice
+pub mod Word

@@ -1,0 +1,5 @@
+pub mod Narrow
+pub mod Utf8
+pub mod Char
+pub mod Text
+pub mod Cases

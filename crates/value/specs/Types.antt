@@ -1,0 +1,76 @@
+-- The ten types (document 01; 2.9.2 and 2.9.6) and the form of the values of each.
+use Prim.Native.Nat.{ℕ, _+_, _-_}
+use mathlib.Core.List.{List, [], _∷_}
+use mathlib.Core.Bool.{Bool, cond, not}
+use lib.Dec.{eqb, ltb}
+
+-- what a value, or a list's element, is
+pub data Kind : Type 0 where
+  nothing number truth narrow text binary : Kind
+
+-- the form of a type's values
+pub data Form : Type 0 where
+  one many : Kind → Form
+  unknown : Form
+
+-- kinds and forms as the code's arrays hold them
+abbrev pub kindNumber : Kind → ℕ
+kindNumber nothing = 0
+kindNumber number = 1
+kindNumber truth = 2
+kindNumber narrow = 3
+kindNumber text = 4
+kindNumber binary = 5
+
+abbrev pub formNumber : Form → ℕ
+formNumber (one k) = kindNumber k
+formNumber (many k) = 8 + kindNumber k
+formNumber unknown = 255
+
+abbrev pub kindAt : ℕ → Kind
+kindAt n =
+    cond (eqb n 1) number
+    (cond (eqb n 2) truth
+    (cond (eqb n 3) narrow
+    (cond (eqb n 4) text
+    (cond (eqb n 5) binary
+    nothing))))
+
+unfoldable pub formAt : ℕ → Form
+formAt n = cond (ltb n 8) (one (kindAt n)) (cond (ltb n 16) (many (kindAt (n - 8))) unknown)
+
+pub record Row : Type 0 where
+  pub code : ℕ
+  pub form : ℕ
+
+abbrev pub row : ℕ → Form → Row
+row code form = record { code = code; form = formNumber form }
+
+unfoldable pub types : List Row
+types =
+    row 0x0003 (one number)
+    ∷ row 0x000B (one truth)
+    ∷ row 0x000D (one nothing)
+    ∷ row 0x001E (one narrow)
+    ∷ row 0x001F (one text)
+    ∷ row 0x0102 (one binary)
+    ∷ row 0x1003 (many number)
+    ∷ row 0x101E (many narrow)
+    ∷ row 0x101F (many text)
+    ∷ row 0x1102 (many binary)
+    ∷ []
+
+-- the form beside a type code
+unfoldable pub formIn : ℕ → List Row → ℕ
+formIn code [] = formNumber unknown
+formIn code (r ∷ rs) = cond (eqb (r .code) code) (r .form) (formIn code rs)
+
+unfoldable pub numberOf : ℕ → ℕ
+numberOf code = formIn code types
+
+unfoldable pub formOf : ℕ → Form
+formOf code = formAt (numberOf code)
+
+-- the code is one of the ten
+unfoldable pub isType : ℕ → Bool
+isType code = not (eqb (numberOf code) (formNumber unknown))

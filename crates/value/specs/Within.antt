@@ -1,0 +1,81 @@
+-- A value that is read stands in the list.
+use Prim.Native.Nat.{ℕ, zero, suc, _+_, _-_, _≤_}
+use native.Mathlib.Omega.{arith}
+use mathlib.Core.Path.{_≡_, refl}
+use mathlib.Core.List.{List}
+use lib.ListN.{length, drop, length-drop}
+use lib.Dec.{ltb, leb}
+use borrow.Author.Tests.{leb-true, ltb-false}
+use Rattle.octets.specs.Cases.{taken}
+use Rattle.octets.specs.Octets.{octetAt}
+use Rattle.answers.specs.declared.Walk.{Walk}
+use Rattle.answers.specs.declared.Walk.the-variants.{Ends, Broken}
+use Rattle.answers.specs.Walk.{broken, onto, no-end, from-walk}
+use Rattle.whole.specs.declared.Number.{Number}
+use Rattle.whole.specs.declared.Number.the-variants.{Is, Broken as NoNumber}
+use Rattle.whole.specs.Number.{numberOf}
+use Rattle.whole.specs.Laws.{number-within}
+use Rattle.text.specs.Narrow.{narrow-within}
+use Rattle.text.specs.Text.{text-within}
+use Rattle.value.specs.Types.{Kind, nothing, number, truth, narrow, text, binary, Form, one, many, unknown}
+use Rattle.value.specs.Value.{counted, numericOf, truthOf, binaryOf, elementOf, listFrom, listOf, valueOf}
+
+-- the number that a walk went on from
+pub from-number : {X : Type 0} (r : Number) (f : ℕ → ℕ → Walk) (w : ℕ) → counted r f ≡ Ends w
+    → ((n k : ℕ) → r ≡ Is n k → f n k ≡ Ends w → X) → X
+from-number (Is n k) f w e g = g n k refl e
+from-number NoNumber f w e g = no-end e
+
+pub numeric-within : (xs : List ℕ) (w : ℕ) → numericOf xs ≡ Ends w → w ≤ length xs
+unfolding numericOf
+numeric-within xs w e =
+    from-number (numberOf xs) _ w e
+    (λ n k p q. let z : k ≡ w = cc in rw z at (number-within (numberOf xs) xs n k p refl))
+
+pub binary-within : (xs : List ℕ) (w : ℕ) → binaryOf xs ≡ Ends w → w ≤ length xs
+unfolding binaryOf
+binary-within xs w e =
+    from-number (numberOf xs) _ w e
+    (λ n k p q. let l = number-within (numberOf xs) xs n k p refl in
+    taken (ltb n 1) _ _ _ q (λ t q. no-end q)
+    (λ t q. taken (leb n (length xs - k)) _ _ _ q
+    (λ t q. let z : k + n ≡ w = cc in omega (arith, leb-true n (length xs - k) t))
+    (λ t q. no-end q)))
+
+pub truth-within : (xs : List ℕ) (w : ℕ) → truthOf xs ≡ Ends w → w ≤ length xs
+unfolding truthOf
+truth-within xs w e =
+    taken (ltb (length xs) 1) _ _ _ e (λ t q. no-end q)
+    (λ t q. taken (ltb (octetAt xs 0) 2) _ _ _ q (λ u q. let z : 1 ≡ w = cc in omega (arith, ltb-false (length xs) 1 t)) (λ u q. no-end q))
+
+pub element-within : (k : Kind) (xs : List ℕ) (w : ℕ) → elementOf k xs ≡ Ends w → w ≤ length xs
+unfolding elementOf
+element-within nothing xs w e = no-end e
+element-within number xs w e = numeric-within xs w e
+element-within truth xs w e = truth-within xs w e
+element-within narrow xs w e = narrow-within xs w e
+element-within text xs w e = text-within xs w e
+element-within binary xs w e = binary-within xs w e
+
+from-within : (k : Kind) (n i : ℕ) (xs : List ℕ) (w : ℕ) → listFrom k n i xs ≡ Ends w → w ≤ i + length xs
+unfolding listFrom
+from-within k zero i xs w e = let z : i ≡ w = cc in omega arith
+from-within k (suc n) i xs w e =
+    from-walk (elementOf k xs) _ w e
+    (λ v p q. let l = element-within k xs v p in
+    let m = from-within k n (i + v) (drop v xs) w q in
+    omega (arith, simp length-drop at m))
+
+pub list-within : (k : Kind) (xs : List ℕ) (w : ℕ) → listOf k xs ≡ Ends w → w ≤ length xs
+unfolding listOf
+list-within k xs w e =
+    from-number (numberOf xs) _ w e
+    (λ n v p q. let l = number-within (numberOf xs) xs n v p refl in
+    taken (ltb n 1) _ _ _ q (λ t q. no-end q)
+    (λ t q. let m = from-within k n v (drop v xs) w q in omega (arith, simp length-drop at m)))
+
+pub value-within : (f : Form) (xs : List ℕ) (w : ℕ) → valueOf f xs ≡ Ends w → w ≤ length xs
+unfolding valueOf
+value-within (one k) xs w e = element-within k xs w e
+value-within (many k) xs w e = list-within k xs w e
+value-within unknown xs w e = no-end e

@@ -1,0 +1,92 @@
+// The walk over a value of each form.
+use answers::Walk;
+use whole::Number;
+ghost use mathlib.Core.Path.{_≡_};
+ghost use Rattle.value.specs.Types.{kindAt, formAt};
+ghost use Rattle.value.specs.Value.{numericOf, truthOf, binaryOf, elementOf, listOf, valueOf};
+
+fn numeric(s: &[u8]) -> Walk
+    ensures { λ r. ⌜ r ≡ numericOf (now (s .entry)) ⌝ }
+{
+    match whole::read_number(s) {
+        Number::Is(_, w) => Walk::Ends(w),
+        Number::Broken => Walk::Broken(0),
+    }
+}
+
+fn truth(s: &[u8]) -> Walk
+    ensures { λ r. ⌜ r ≡ truthOf (now (s .entry)) ⌝ }
+{
+    if s.len() < 1 {
+        return Walk::Broken(0);
+    }
+    let a = s[0];
+    if a < 2 {
+        return Walk::Ends(1);
+    }
+    Walk::Broken(0)
+}
+
+fn binary(s: &[u8]) -> Walk
+    ensures { λ r. ⌜ r ≡ binaryOf (now (s .entry)) ⌝ }
+{
+    let Number::Is(n, w) = whole::read_number(s) else {
+        return Walk::Broken(0);
+    };
+    if n < 1 {
+        return Walk::Broken(0);
+    }
+    let k = n as usize;
+    if k <= s.len() - w {
+        return Walk::Ends(w + k);
+    }
+    Walk::Broken(0)
+}
+
+// One value of a kind, single or in a list.
+fn element(kind: u8, s: &[u8]) -> Walk
+    ensures { λ r. ⌜ r ≡ elementOf (kindAt kind) (now (s .entry)) ⌝ }
+{
+    match kind {
+        1 => numeric(s),
+        2 => truth(s),
+        3 => text::narrow_string(s),
+        4 => text::utf8_string(s),
+        5 => binary(s),
+        _ => Walk::Broken(0),
+    }
+}
+
+fn list(kind: u8, s: &[u8]) -> Walk
+    ensures { λ r. ⌜ r ≡ listOf (kindAt kind) (now (s .entry)) ⌝ }
+{
+    let Number::Is(n, w) = whole::read_number(s) else {
+        return Walk::Broken(0);
+    };
+    if n < 1 {
+        return Walk::Broken(0);
+    }
+    let mut left = n;
+    let mut i = w;
+    while 0 < left {
+        let Walk::Ends(k) = element(kind, &s[i..]) else {
+            return Walk::Broken(0);
+        };
+        i += k;
+        left -= 1;
+    }
+    Walk::Ends(i)
+}
+
+// The value of a form at the front of `s`.
+pub fn walk_value(form: u8, s: &[u8]) -> Walk
+    ensures { λ r. ⌜ r ≡ valueOf (formAt form) (now (s .entry)) ⌝ }
+{
+    if form < 8 {
+        return element(form, s);
+    }
+    if form < 16 {
+        return list(form - 8, s);
+    }
+    Walk::Broken(0)
+}
