@@ -106,7 +106,7 @@ set-other xs i j h = elim (ℕ-discrete (j / 8) (i / 8)) [ no p ↦ ap (λ (x : 
 
 -- ---- two numbers are equal where their bits are
 
-mod-ext : (k x y : ℕ) → ((l : ℕ) → l < k → bitOf x l ≡ bitOf y l) → x % 2 ^ k ≡ y % 2 ^ k
+pub mod-ext : (k x y : ℕ) → ((l : ℕ) → l < k → bitOf x l ≡ bitOf y l) → x % 2 ^ k ≡ y % 2 ^ k
 unfolding bitOf
 mod-ext zero x y h = mod-one x ∙ sym (mod-one y)
 mod-ext (suc k) x y h = rw (← one-add k, mod-pow-add x 1 k, mod-pow-add y 1 k, mod-ext k x y (λ l p. h l (omega arith)), h k (omega arith))

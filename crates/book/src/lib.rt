@@ -1,0 +1,4 @@
+// The whole book.
+pub fn none() -> u8 {
+    0
+}

@@ -1,0 +1,4 @@
+// One record.
+pub fn none() -> u8 {
+    0
+}

@@ -1,0 +1,5 @@
+pub mod First
+pub mod Repeat
+pub mod Table
+pub mod Columns
+pub mod Cases
