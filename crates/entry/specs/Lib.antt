@@ -1,2 +1,4 @@
 pub mod Present
 pub mod Record
+pub mod Slots
+pub mod Cases

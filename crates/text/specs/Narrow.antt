@@ -11,7 +11,7 @@ use borrow.Author.Tests.{ne-eqb, eqb-true, eqb-false}
 use Rattle.octets.specs.Cases.{taken}
 use Rattle.answers.specs.declared.Walk.{Walk}
 use Rattle.answers.specs.declared.Walk.the-variants.{Ends}
-use Rattle.answers.specs.Walk.{broken, no-end}
+use Rattle.answers.specs.Walk.{broken, no-end, breakOf, break-either}
 
 -- where i octets that are not 0 have gone before
 unfoldable pub narrowFrom : ℕ → List ℕ → Walk
@@ -78,3 +78,12 @@ pub narrow-within : (xs : List ℕ) (w : ℕ) → narrowOf xs ≡ Ends w → w �
 narrow-within xs w e =
     let t = narrow-sound xs w e in
     omega (arith, simp length-append at (ap length (t .reads)), t .ends)
+
+-- a string that breaks its form is at fault at its start
+breaks-from : (i : ℕ) (xs : List ℕ) → breakOf (narrowFrom i xs) ≡ 0
+unfolding narrowFrom
+breaks-from i [] = refl
+breaks-from i (x ∷ xs) = break-either (eqb x 0) _ _ (break-either (eqb i 0) _ _ refl refl) (breaks-from (i + 1) xs)
+
+pub narrow-breaks : (xs : List ℕ) → breakOf (narrowOf xs) ≡ 0
+narrow-breaks xs = breaks-from 0 xs

@@ -13,7 +13,7 @@ use Rattle.octets.specs.Cases.{taken}
 use Rattle.octets.specs.Octets.{octetAt}
 use Rattle.answers.specs.declared.Walk.{Walk}
 use Rattle.answers.specs.declared.Walk.the-variants.{Ends}
-use Rattle.answers.specs.Walk.{broken, no-end}
+use Rattle.answers.specs.Walk.{broken, no-end, breakOf, break-either}
 use Rattle.text.specs.Utf8.{charWidth, textFrom, textOf}
 use Rattle.text.specs.Char.{Scalar, encodeChar, char-back, Char, char-sound, first-some}
 
@@ -124,3 +124,16 @@ text-within xs w e =
     let t = text-sound xs w e in
     let l = length-append (encodeText (t .codes)) (t .rest) in
     omega (arith, ap length (t .reads), l, t .ends)
+
+-- a string that breaks its form is at fault at its start
+breaks-from : (k i : ℕ) (xs : List ℕ) → breakOf (textFrom k i xs) ≡ 0
+unfolding textFrom
+breaks-from zero i [] = refl
+breaks-from (suc k) i [] = refl
+breaks-from (suc k) i (x ∷ xs) = breaks-from k (i + 1) xs
+breaks-from zero i (x ∷ xs) =
+    break-either (eqb x 0) _ _ (break-either (eqb i 0) _ _ refl refl)
+    (break-either (eqb (charWidth (x ∷ xs) 0) 0) _ _ refl (breaks-from (charWidth (x ∷ xs) 0 - 1) (i + 1) xs))
+
+pub text-breaks : (xs : List ℕ) → breakOf (textOf xs) ≡ 0
+text-breaks xs = breaks-from 0 0 xs

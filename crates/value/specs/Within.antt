@@ -1,7 +1,7 @@
 -- A value that is read stands in the list.
 use Prim.Native.Nat.{ℕ, zero, suc, _+_, _-_, _≤_}
 use native.Mathlib.Omega.{arith}
-use mathlib.Core.Path.{_≡_, refl}
+use mathlib.Core.Path.{_≡_, refl, sym, ap, _∙_}
 use mathlib.Core.List.{List}
 use lib.ListN.{length, drop, length-drop}
 use lib.Dec.{ltb, leb}
@@ -10,13 +10,13 @@ use Rattle.octets.specs.Cases.{taken}
 use Rattle.octets.specs.Octets.{octetAt}
 use Rattle.answers.specs.declared.Walk.{Walk}
 use Rattle.answers.specs.declared.Walk.the-variants.{Ends, Broken}
-use Rattle.answers.specs.Walk.{broken, onto, no-end, from-walk}
+use Rattle.answers.specs.Walk.{broken, onto, no-end, from-walk, breakOf, break-either, break-onto}
 use Rattle.whole.specs.declared.Number.{Number}
 use Rattle.whole.specs.declared.Number.the-variants.{Is, Broken as NoNumber}
 use Rattle.whole.specs.Number.{numberOf}
 use Rattle.whole.specs.Laws.{number-within}
-use Rattle.text.specs.Narrow.{narrow-within}
-use Rattle.text.specs.Text.{text-within}
+use Rattle.text.specs.Narrow.{narrow-within, narrow-breaks}
+use Rattle.text.specs.Text.{text-within, text-breaks}
 use Rattle.value.specs.Types.{Kind, nothing, number, truth, narrow, text, binary, Form, one, many, unknown}
 use Rattle.value.specs.Value.{counted, numericOf, truthOf, binaryOf, elementOf, listFrom, listOf, valueOf}
 
@@ -79,3 +79,34 @@ unfolding valueOf
 value-within (one k) xs w e = element-within k xs w e
 value-within (many k) xs w e = list-within k xs w e
 value-within unknown xs w e = no-end e
+
+-- ---- where a value breaks lies in the part
+
+break-counted : (r : Number) (f : ℕ → ℕ → Walk) → ((n w : ℕ) → breakOf (f n w) ≡ 0) → breakOf (counted r f) ≡ 0
+break-counted (Is n w) f h = h n w
+break-counted NoNumber f h = refl
+
+element-breaks : (k : Kind) (xs : List ℕ) → breakOf (elementOf k xs) ≡ 0
+unfolding elementOf numericOf truthOf binaryOf
+element-breaks nothing xs = refl
+element-breaks number xs = break-counted (numberOf xs) _ (λ n w. refl)
+element-breaks truth xs = break-either (ltb (length xs) 1) _ _ refl (break-either (ltb (octetAt xs 0) 2) _ _ refl refl)
+element-breaks narrow xs = narrow-breaks xs
+element-breaks text xs = text-breaks xs
+element-breaks binary xs = break-counted (numberOf xs) _ (λ n w. break-either (ltb n 1) _ _ refl (break-either (leb n (length xs - w)) _ _ refl refl))
+
+list-breaks : (k : Kind) (n i : ℕ) (xs : List ℕ) → breakOf (listFrom k n i xs) ≡ 0
+unfolding listFrom
+list-breaks k zero i xs = refl
+list-breaks k (suc n) i xs = break-onto (elementOf k xs) _ (λ w. list-breaks k n (i + w) (drop w xs))
+
+breaks : (f : Form) (xs : List ℕ) → breakOf (valueOf f xs) ≡ 0
+unfolding valueOf listOf
+breaks (one k) xs = element-breaks k xs
+breaks (many k) xs = break-counted (numberOf xs) _ (λ n w. break-either (ltb n 1) _ _ refl (list-breaks k n w (drop w xs)))
+breaks unknown xs = refl
+
+pub value-breaks : (r : Walk) (f : Form) (xs : List ℕ) (q : ℕ) → r ≡ valueOf f xs → r ≡ Broken q → q ≤ length xs
+value-breaks r f xs q e p =
+    let z : q ≡ 0 = sym (ap breakOf p) ∙ ap breakOf e ∙ breaks f xs in
+    omega arith
