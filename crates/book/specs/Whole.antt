@@ -54,7 +54,7 @@ tables-sound ys o e =
     let w : wordOf 4 ys ≡ metaSize (length (headsIn ys)) (length (colsIn ys)) = eqb-true _ _ (unmet _ wrongMetadata 12 (c₃ .1)) ∙ ap₂ metaSize (sym (h .many)) (sym (c .many)) in
     let l = leb-true 4 (length ys) (unmet _ cutShort 12 (c₁ .0)) in
     let d : drop 4 ys ≡ (tableOctets (headsIn ys) ++ tableOctets (colsIn ys)) ++ recordsIn ys =
-      h .reads ∙ ap (λ (l : List ℕ). tableOctets (headsIn ys) ++ l) (c .reads) ∙ sym (append-assoc (tableOctets (headsIn ys)) (tableOctets (colsIn ys)) (recordsIn ys)) in
+    h .reads ∙ ap (λ (l : List ℕ). tableOctets (headsIn ys) ++ l) (c .reads) ∙ sym (append-assoc (tableOctets (headsIn ys)) (tableOctets (colsIn ys)) (recordsIn ys)) in
     record { heads = h .sound; cols = c .sound; reads = word-sound 4 ys o l ∙ ap₂ (λ (n : ℕ) (l : List ℕ). leOf 4 n ++ l) w d }
 
 pub record AllAre (hs ss : List Slot) (n : ℕ) (zs : List ℕ) : Type 0 where

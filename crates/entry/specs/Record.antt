@@ -238,7 +238,7 @@ made ss at xs o l₁ l₂ l₃ z h =
     let t : length (take w xs) ≡ w = length-take-le w xs l₃ in
     let y : length (valuesIn n xs) ≡ w - (4 + room n) = length-drop (4 + room n) (take w xs) ∙ ap (λ (x : ℕ). x - (4 + room n)) t in
     let d : drop 4 xs ≡ p ++ (valuesIn n xs ++ drop w xs) =
-      sym (take-append-drop (room n) (drop 4 xs)) ∙ ap (λ (l : List ℕ). p ++ l) (drop-drop (room n) 4 xs ∙ part-to (4 + room n) w xs l₂ l₃) in
+    sym (take-append-drop (room n) (drop 4 xs)) ∙ ap (λ (l : List ℕ). p ++ l) (drop-drop (room n) 4 xs ∙ part-to (4 + room n) w xs l₂ l₃) in
     let a = assembled es xs w p (valuesIn n xs) (drop w xs) (word-sound 4 xs o l₁ ∙ ap (λ (l : List ℕ). leOf 4 w ++ l) d) f (h .reads) (omega arith) in
     record { row = es; sound = h .sound; reads = a .0; size = a .1; small = word-small 4 xs o l₁ }
 

@@ -60,7 +60,6 @@ row-whole at xs e =
 pub no-table-is : (v : Verdict) (c : Columns) → c ≡ noColumns → _≡_ {A = Table} (record { verdict = v; columns = c }) (noTable v)
 no-table-is v c e = rw e
 
-
 plain-step : (m at : ℕ) (xs : List ℕ) → 0 < m → plainAt m at xs ≡ (rowAt at xs then plainAt (m - 1) (at + 8) (drop 8 xs))
 unfolding plainAt
 plain-step zero at xs h = absurd (omega arith)

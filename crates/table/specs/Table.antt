@@ -29,7 +29,6 @@ codeOf c = c .tag % 65536
 abbrev pub isKey : Column → Bool
 isKey c = eqb (c .flags / 2 % 2) 1
 
-
 -- ---- how tables are written
 
 abbrev pub columnsOctets : List Column → List ℕ
@@ -155,8 +154,8 @@ columns-sound (suc n) seen at xs o e =
       sound = ((word-small 4 xs o l₁, word-small 4 (drop 4 xs) (octets-drop 4 xs o) l₃, unmet _ unknownType at (c₂ .1)), not-true (memb (wordOf 4 xs) seen) (unmet _ repeatedTag at (c₄ .0)), r .sound);
       many = ap suc (r .many);
       reads =
-        word-sound 4 xs o l₁ ∙ ap (λ (l : List ℕ). leOf 4 (wordOf 4 xs) ++ l) (word-sound 4 (drop 4 xs) (octets-drop 4 xs o) l₃)
-        ∙ ap (λ (l : List ℕ). leOf 4 (wordOf 4 xs) ++ (leOf 4 (wordOf 4 (drop 4 xs)) ++ l)) (drop-drop 4 4 xs ∙ r .reads ∙ ap (λ (l : List ℕ). columnsOctets (columnsOf n (drop 8 xs)) ++ l) q);
+          word-sound 4 xs o l₁ ∙ ap (λ (l : List ℕ). leOf 4 (wordOf 4 xs) ++ l) (word-sound 4 (drop 4 xs) (octets-drop 4 xs o) l₃)
+          ∙ ap (λ (l : List ℕ). leOf 4 (wordOf 4 xs) ++ (leOf 4 (wordOf 4 (drop 4 xs)) ++ l)) (drop-drop 4 4 xs ∙ r .reads ∙ ap (λ (l : List ℕ). columnsOctets (columnsOf n (drop 8 xs)) ++ l) q);
     }
 
 pub record TableIs (xs : List ℕ) : Type 0 where
