@@ -1,0 +1,199 @@
+"""Checks the model against fixed facts. Run from the top: python3 tests/check_model.py
+
+What: assertions only; the last line says that all hold. Why: the model is the measure of
+the tests, so it is itself measured by things that were not made with it: the sample file
+of document 000, document 01's own cases, other programs for serial and UTF-8, and faults
+put into books on purpose, whose refusals are known before anything is judged.
+"""
+
+import random
+import sys
+import zlib
+
+sys.dont_write_bytecode = True
+
+import make
+from model import books, oab
+
+
+def check_serial():
+    assert oab.serial(b'123456789') == 0x340BC6D9
+    assert oab.serial(b'') == 0xFFFFFFFF
+    sample = books.sample_book()
+    assert oab.serial(sample[12:]) == 0x7FC0DAF7 == oab.word(sample, 4)
+    rng = random.Random(1)
+    for length in range(300):
+        octets = rng.randbytes(length)
+        assert oab.serial(octets) == zlib.crc32(octets) ^ 0xFFFFFFFF
+
+
+def check_document_cases():
+    for value, code in ((127, '7F'), (128, '8180'), (256, '820001'), (65_536, '83000001'), (16_777_216, '8400000001')):
+        assert oab.encode_number(value) == bytes.fromhex(code)
+        assert oab.number_at(bytes.fromhex(code)) == (value, len(code) // 2)
+    for code in ('80', '817F', '828000', '85', ''):
+        assert oab.number_at(bytes.fromhex(code)) is None
+    assert oab.walk(0x0102, bytes.fromhex('0522F8FF0022')) == 6
+    for code, end in (('EDA08000', None), ('F48FBFBF00', 5), ('F490808000', None), ('00', None)):
+        assert oab.walk(0x001F, bytes.fromhex(code)) == end
+    assert oab.walk(0x001E, b'\0') is None
+    assert [oab.presence_octets(n) for n in (0, 8, 9)] == [0, 1, 2]
+    assert oab.record_octets([]) == b'\x04\0\0\0'
+    small = books.small_book()
+    assert small == oab.write_book(*books.SMALL_TABLE)
+    assert oab.judge(small) == ('good', 78, [(0x6800001F, 0)], [(0x39FE001F, 2), (0x3001001F, 1), (0x800F101F, 1)], 1, 56, 63)
+    assert oab.listing(small) == 'book 78 1 3 1\nheader 56 7 1\nrecord 0 63 15 2\n'
+    assert oab.listing(bytes(65_536)) == 'refused 3 0\n' and oab.listing(bytes(65_537)) == 'refused 17 0\n'
+    assert oab.lookup(small, 0, 0x800F101F) == ('at', 72, 78) and oab.lookup(small, 0, 0x3001001F) == ('absent',)
+    assert oab.lookup(small, None, 0x6800001F) == ('at', 61, 63) and oab.lookup(small, 1, 0x39FE001F) == ('refused', 15, 0)
+    buffer = bytearray(small + b'\xA5' * 3)
+    assert oab.set_value(buffer, 78, 0, 0x3001001F, b'\x51\0') == ('done', 80)
+    assert buffer[63:] == bytes.fromhex('11000000 E0 62406300 5100 027800797A00 A5')
+    assert oab.clear_value(buffer, 80, 0, 0x3001001F) == ('done', 78)
+    assert buffer == small + b'\0\0\xA5'
+
+
+def check_numbers():
+    """A part is taken exactly when it begins with the encoding of the value given."""
+    parts = [bytes([a, b]) for a in range(256) for b in range(256)]
+    edge = (0, 1, 0x7F, 0x80, 0xFF)
+    parts += [bytes([a, b, c, d, e]) for a in (0x7F, 0x80, 0x81, 0x82, 0x83, 0x84, 0x85) for b in edge for c in edge for d in edge for e in edge]
+    codes = set()
+    for value in list(range(70_000)) + list(books.BOUNDARY_NUMBERS):
+        code = oab.encode_number(value)
+        assert oab.number_at(code) == (value, len(code)) and oab.number_at(code + b'\x99') == (value, len(code))
+        assert all(oab.number_at(code[:cut]) is None for cut in range(len(code)))
+        codes.add(code)
+    for part in parts:
+        got = oab.number_at(part)
+        if got is not None:
+            assert part[:got[1]] == oab.encode_number(got[0])
+        else:
+            assert all(part[:width] not in codes for width in range(1, 6))
+
+
+def python_takes(octets):
+    try:
+        octets.decode('utf-8', 'strict')
+        return True
+    except UnicodeDecodeError:
+        return False
+
+
+def check_utf8():
+    rng = random.Random(2)
+    edge = bytes(sorted(set(make.FIRST_OCTETS + make.NEXT_OCTETS)))
+    strings = [bytes([a]) for a in range(256)] + [bytes([a, b]) for a in range(256) for b in range(256)]
+    strings += [bytes([a, b, c]) for a in edge for b in edge for c in edge]
+    strings += [bytes([a, b, c, d]) for a in edge for b in edge for c in make.NEXT_OCTETS for d in make.NEXT_OCTETS]
+    for _ in range(3000):
+        text = books.some_text(rng, 12)
+        strings += [text, text[:-1], text + rng.choice(books.BAD_TEXTS), books.random_damage(text, rng)]
+    for octets in strings:
+        assert oab.utf8_ok(octets) == python_takes(octets), octets.hex()
+    for bad in books.BAD_TEXTS:
+        assert not python_takes(bad)
+
+
+def check_books():
+    """Good books are judged good, read back as their tables, and are written again."""
+    rng = random.Random(3)
+    tables = [books.some_table(rng) for _ in range(400)] + list(make.wide_tables(rng, 2)) + list(make.long_tables(rng))
+    for table in tables:
+        header, address, header_row, rows = table
+        book = books.octets_of(table)
+        plain = [(tag, flags & 3) for tag, flags in header], [(tag, flags & 3) for tag, flags in address]
+        verdict = oab.judge(book)
+        first = 24 + 8 * (len(header) + len(address))
+        assert verdict == ('good', len(book)) + plain + (len(rows), first, first + len(oab.record_octets(header_row)))
+        assert oab.table_of(book) == plain + (header_row, rows)
+        again = oab.write_book(*oab.table_of(book))
+        clean = bytearray(book)
+        for row in range(len(header) + len(address)):
+            at = 24 + 8 * row + (4 if row >= len(header) else 0)
+            clean[at:at + 4] = oab.four(oab.word(book, at) & 3)
+        assert again == books.mended(clean)
+        for record, row in [(None, header_row)] + list(enumerate(rows))[:4]:
+            for (tag, _), value in zip(header if record is None else address, row):
+                if len(book) > 5000 or rng.random() < 0.9:
+                    continue
+                got = oab.lookup(book, record, tag)
+                assert got == ('absent',) if value is None else book[got[1]:got[2]] == value
+
+
+def check_refusals():
+    """A fault put in on purpose brings the refusal it is known to bring."""
+    rng = random.Random(4)
+    for fault in books.FAULTS:
+        for _ in range(80):
+            made = books.faulty(books.some_table(rng), rng, fault)
+            if made is not None:
+                assert oab.judge(made[0]) == ('refused',) + made[1], fault.__name__
+    for _ in range(25):
+        table = books.some_table(rng)
+        book = books.octets_of(table)
+        for length in range(0, len(book), 3):
+            assert oab.judge(book[:length]) == ('refused',) + books.cut_refusal(table, length)
+    for book, expected in books.reading_books():
+        verdict = oab.judge(book)
+        assert verdict[0] == 'good' if expected is None else verdict == ('refused',) + expected
+    assert oab.judge(bytes(oab.LIMIT + 1)) == ('refused', 1, 0)
+    assert oab.judge(bytes(oab.LIMIT)) == ('refused', 3, 0)
+
+
+def check_writing():
+    """The calls lay down the same octets as the book written at once."""
+    rng = random.Random(5)
+    stream = make.WritingStream()
+    for _ in range(150):
+        table = books.some_table(rng)
+        book = oab.write_book(*table)
+        assert stream.play(len(book) + 1, make.book_calls(table)) == ('done', len(book))
+        assert stream.buffer == book + b'\xA5'
+        before = sum(often for (_, answer), often in stream.answers.items() if answer == 17)
+        stream.play(len(book) - 1, make.book_calls(table))                 # one octet short: some call has no room
+        assert sum(often for (_, answer), often in stream.answers.items() if answer == 17) > before
+
+
+def check_count_limit():
+    """65,535 address records are taken, the next is 16; too many for a stream, so shown here."""
+    whole = oab.write_book([], [], [], [[] for _ in range(65_535)])
+    assert oab.judge(whole)[:5] == ('good', len(whole), [], [], 65_535)
+    buffer = bytearray(whole + bytes(8))
+    assert oab.insert_record(buffer, len(whole), 0, b'\x04\0\0\0') == ('refused', 16, 0)
+    assert oab.insert_record(buffer, len(whole), 65_536, b'\x04\0\0\0') == ('refused', 15, 0)
+    assert oab.insert_record(buffer, len(whole), 65_535, b'\x05\0\0\0') == ('refused', 18, 0)
+    assert oab.delete_record(buffer, len(whole), 65_534) == ('done', len(whole) - 4)
+    writing = oab.Writing()
+    buffer = bytearray(len(whole))
+    writing.begin([], [], [], [], buffer)
+    for _ in range(65_536):
+        assert writing.open()[0] == 'done' and writing.close()[0] == 'done'
+    assert writing.open() == ('refused', 16, 0)                            # 16 before 17: there is no room either
+    assert writing.finish() == ('done', len(whole)) and buffer == whole
+
+
+def check_length_limit():
+    """16 for the length, with the limit lowered for the while of the check."""
+    limit, oab.LIMIT = oab.LIMIT, 78
+    try:
+        small = books.small_book()
+        buffer = bytearray(small + bytes(20))
+        assert oab.set_value(buffer, 78, 0, 0x3001001F, b'\x51\0') == ('refused', 16, 0)
+        assert oab.set_value(bytearray(small), 78, 0, 0x3001001F, b'\x51\0') == ('refused', 16, 0)
+        assert oab.insert_record(buffer, 78, 1, b'\x07\0\0\0\x80a\0') == ('refused', 16, 0)
+        assert oab.judge(small + b'\0') == ('refused', 1, 0)
+        stream = make.WritingStream()
+        assert stream.play(98, make.book_calls(books.SMALL_TABLE)) == ('done', 78)
+        oab.LIMIT = 77
+        assert stream.play(98, make.book_calls(books.SMALL_TABLE)[:-2]) == ('refused', 16, 0)
+        assert stream.play(77, make.book_calls(books.SMALL_TABLE)[:-2]) == ('refused', 16, 0)
+    finally:
+        oab.LIMIT = limit
+
+
+if __name__ == '__main__':
+    for check in (check_serial, check_document_cases, check_numbers, check_utf8, check_books, check_refusals,
+                  check_writing, check_count_limit, check_length_limit):
+        check()
+    print('the model holds')
