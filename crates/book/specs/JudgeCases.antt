@@ -76,13 +76,13 @@ refused-is r c d e f = rw (e, f)
 
 -- ---- columns fit into their arrays
 
-padded-long : (xs : List ℕ) → length xs ≤ 128 → length (padded xs) ≡ 128
+pub padded-long : (xs : List ℕ) → length xs ≤ 128 → length (padded xs) ≡ 128
 padded-long xs h = length-append xs _ ∙ rw (length-replicate {A = ℕ} (128 - length xs) 0) (omega arith)
 
 none-fit : Fits128 noColumns
 none-fit = record { few = omega arith; forms = length-replicate {A = ℕ} 128 0; flags = length-replicate {A = ℕ} 128 0 }
 
-columns-fit : (cs : List Column) → length cs ≤ 128 → Fits128 (columnsIn cs)
+pub columns-fit : (cs : List Column) → length cs ≤ 128 → Fits128 (columnsIn cs)
 unfolding columnsIn
 columns-fit cs h = record { few = h; forms = padded-long (formsOf cs) (rw (forms-long cs) h); flags = padded-long (bitsOf cs) (rw (bits-long cs) h) }
 
@@ -200,12 +200,12 @@ rest-is b at c d v e = rw (sub-zero (c .count), sub-zero (d .count)) at e
 
 -- ---- judge
 
-slots-head : (cs : List Column) → slotsFrom (formsOf cs) [] ≡ slotsOf false cs
+pub slots-head : (cs : List Column) → slotsFrom (formsOf cs) [] ≡ slotsOf false cs
 unfolding keyBit formOf
 slots-head [] = refl
 slots-head (c ∷ cs) = ap (λ (l : List Slot). record { form = formOf (codeOf c); must = false } ∷ l) (slots-head cs)
 
-slots-row : (cs : List Column) → slotsFrom (formsOf cs) (bitsOf cs) ≡ slotsOf true cs
+pub slots-row : (cs : List Column) → slotsFrom (formsOf cs) (bitsOf cs) ≡ slotsOf true cs
 unfolding keyBit formOf
 slots-row [] = refl
 slots-row (c ∷ cs) =
@@ -224,7 +224,7 @@ both-fit b z =
     )
 
 -- the records stand behind the second table
-records-place : (b : List ℕ) → drop (recordsPlace (drop 12 b)) b ≡ recordsIn (drop 12 b)
+pub records-place : (b : List ℕ) → drop (recordsPlace (drop 12 b)) b ≡ recordsIn (drop 12 b)
 unfolding behind
 records-place b =
     let h : ℕ = headCount (drop 12 b) in
@@ -239,7 +239,7 @@ rest-by b at hs cs zs e =
     rw (e, take-at (formsOf hs) _ (length hs) (forms-long hs), take-at (formsOf cs) _ (length cs) (forms-long cs), take-at (bitsOf cs) _ (length cs) (bits-long cs), slots-head hs, slots-row cs)
 
 -- the header record of a good book stands in it
-first-whole : (b : List ℕ) → judge b ≡ clear → recordsPlace (drop 12 b) + wordOf 4 (recordsIn (drop 12 b)) ≤ length b
+pub first-whole : (b : List ℕ) → judge b ≡ clear → recordsPlace (drop 12 b) + wordOf 4 (recordsIn (drop 12 b)) ≤ length b
 unfolding judge bodyAt allAt
 first-whole b e =
     let ys : List ℕ = drop 12 b in

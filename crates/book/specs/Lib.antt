@@ -6,3 +6,4 @@ pub mod Exact
 pub mod Unused
 pub mod RecordCases
 pub mod JudgeCases
+pub mod Good

@@ -104,7 +104,7 @@ values-step s ss i p at ys = go (isSet p i)
     go true = refl
     go false = rw (add-zero at)
 
-step-within : (p : List ℕ) (i : ℕ) (f : Form) (xs : List ℕ) (w : ℕ) → stepOf p i f xs ≡ Ends w → w ≤ length xs
+pub step-within : (p : List ℕ) (i : ℕ) (f : Form) (xs : List ℕ) (w : ℕ) → stepOf p i f xs ≡ Ends w → w ≤ length xs
 unfolding stepOf
 step-within p i f xs w e = go (isSet p i) e
   where
@@ -165,7 +165,7 @@ pub ruleset values = (values-start, values-broken, values-next, values-left, val
 -- ---- the record
 
 -- what stands behind the size field in the record stands there in the book
-present-in : (m w : ℕ) (xs : List ℕ) → 4 + m ≤ w → w ≤ length xs → take m (drop 4 (take w xs)) ≡ take m (drop 4 xs)
+pub present-in : (m w : ℕ) (xs : List ℕ) → 4 + m ≤ w → w ≤ length xs → take m (drop 4 (take w xs)) ≡ take m (drop 4 xs)
 present-in m w xs h k =
     let l : length (take w xs) ≡ w = length-take-le w xs k in
     let d : length (drop 4 (take w xs)) ≡ w - 4 = length-drop 4 (take w xs) ∙ ap (λ (n : ℕ). n - 4) l in

@@ -52,7 +52,7 @@ fn judge_keys(p: &[u8], forms: &[u8], flags: &[u32], at: usize) -> Verdict
 }
 
 // The walk over the value of column i, where it has one.
-fn step(p: &[u8], i: usize, form: u8, s: &[u8]) -> Walk
+pub fn walk_column(p: &[u8], i: usize, form: u8, s: &[u8]) -> Walk
     ensures { λ r. ⌜ r ≡ stepOf (now (p .entry)) i (formAt form) (now (s .entry)) ⌝ }
 {
     if presence::has(p, i) {
@@ -69,7 +69,7 @@ fn judge_values(p: &[u8], forms: &[u8], s: &[u8], at: usize) -> Verdict
     let mut j = 0;
     let mut i = 0;
     while j < forms.len() {
-        let walk = step(p, j, forms[j], &s[i..]);
+        let walk = walk_column(p, j, forms[j], &s[i..]);
         match walk {
             Walk::Broken(q) => return refuse(answers::BROKEN_VALUE, at + i + q),
             Walk::Ends(w) => {

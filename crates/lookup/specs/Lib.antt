@@ -1,0 +1,5 @@
+pub mod Places
+pub mod Values
+pub mod Look
+pub mod Laws
+pub mod Cases
