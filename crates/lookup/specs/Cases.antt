@@ -306,7 +306,7 @@ module _ (b : List ℕ) (tag : ℕ) (j : Judgement) (e : j ≡ judgedOf b) where
     lookup-header which r w z =
         let ys : List ℕ = drop 12 b in
         let s : r ≡ lookFor (tagsOf (headsIn ys)) (formsOf (headsIn ys)) tag (recordsPlace ys) (recordsIn ys) =
-          rw (good .heads, good .header, tags-in (headsIn ys), forms-in (headsIn ys), records-place b) at z in
+        rw (good .heads, good .header, tags-in (headsIn ys), forms-in (headsIn ys), records-place b) at z in
         s ∙ head-look (headsIn ys) tag (recordsPlace ys) (recordsIn ys) ∙ rw (w, good .clears)
 
     pub lookup-number : (which : Which) (k : ℕ) (r : Looked) → which ≡ Number k → r ≡ numberLook b (j .address) f c k tag → r ≡ lookupOf b which tag
@@ -316,7 +316,7 @@ module _ (b : List ℕ) (tag : ℕ) (j : Judgement) (e : j ≡ judgedOf b) where
         let n : countIn b ≡ c = sym (good .count) in
         split k c
         (λ h. let s : r ≡ lookFor (tagsOf (colsIn ys)) (formsOf (colsIn ys)) tag (placeIn b k) (drop (placeIn b k) b) =
-          rw (lt-leb c k h, good .cols, tags-in (colsIn ys), forms-in (colsIn ys), walk-place b k f (good .first)) at z in
+        rw (lt-leb c k h, good .cols, tags-in (colsIn ys), forms-in (colsIn ys), walk-place b k f (good .first)) at z in
         s ∙ row-look (colsIn ys) tag (placeIn b k) (drop (placeIn b k) b) ∙ rw (w, good .clears, n, lt-ltb k c h))
         (λ h. let s : r ≡ noSuch = rw (le-leb c k h) at z in s ∙ rw (w, good .clears, n, le-ltb k c h))
 

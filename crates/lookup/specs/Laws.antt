@@ -87,10 +87,10 @@ stretch-is n c es rest v m h e =
     let l = row-length es in
     let k = length-append (presenceOf es) (valuesOf es) in
     let a : drop (4 + room n) (rowOctets es ++ rest) ≡ valuesOf es ++ rest =
-      drop-append-le (4 + room n) (rowOctets es) rest (omega arith) ∙ ap (λ (l : List ℕ). l ++ rest) (values-behind es n m) in
+    drop-append-le (4 + room n) (rowOctets es) rest (omega arith) ∙ ap (λ (l : List ℕ). l ++ rest) (values-behind es n m) in
     let b : drop (valueOffset c es) (valuesOf es ++ rest) ≡ v ++ (valuesOf (drop (suc c) es) ++ rest) =
-      drop-append-le (valueOffset c es) (valuesOf es) rest (short (valueOffset c es) (length (valuesOf (drop c es))) (valuesOf es) (ap length (values-split c es) ∙ length-append (valuesOf (take c es)) (valuesOf (drop c es))))
-      ∙ ap (λ (l : List ℕ). l ++ rest) (value-front c es v (omega arith) e) ∙ append-assoc v (valuesOf (drop (suc c) es)) rest in
+    drop-append-le (valueOffset c es) (valuesOf es) rest (short (valueOffset c es) (length (valuesOf (drop c es))) (valuesOf es) (ap length (values-split c es) ∙ length-append (valuesOf (take c es)) (valuesOf (drop c es))))
+    ∙ ap (λ (l : List ℕ). l ++ rest) (value-front c es v (omega arith) e) ∙ append-assoc v (valuesOf (drop (suc c) es)) rest in
     ap (take (length v)) (sym (drop-drop (valueOffset c es) (4 + room n) (rowOctets es ++ rest)) ∙ ap (drop (valueOffset c es)) a ∙ b) ∙ take-append-seam v (valuesOf (drop (suc c) es) ++ rest)
   where
     short : (x z : ℕ) (ys : List ℕ) → length ys ≡ x + z → x ≤ length ys

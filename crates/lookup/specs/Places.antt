@@ -135,4 +135,3 @@ record-from b k h = rows-dropped b k ∙ ap rowsOctets (drop-cons (b .rows) k []
 pub head-from : (b : Book) → drop (12 + length (tablesOctets (b .heads) (b .cols))) (bookOctets b) ≡ rowOctets (b .head) ++ rowsOctets (b .rows)
 unfolding bodyOctets
 head-from b = body-dropped b (length (tablesOctets (b .heads) (b .cols))) ∙ drop-append-seam (tablesOctets (b .heads) (b .cols)) (rowOctets (b .head) ++ rowsOctets (b .rows))
-

@@ -134,7 +134,14 @@ fn walk_to(book: &[u8], at: usize, k: usize) -> usize
 }
 
 // The value with a tag in address record k.
-fn look_number(book: &[u8], columns: Columns, first: usize, count: usize, k: usize, tag: u32) -> Looked
+fn look_number(
+    book: &[u8],
+    columns: Columns,
+    first: usize,
+    count: usize,
+    k: usize,
+    tag: u32,
+) -> Looked
     requires { ⌜ (columns .count ≤ length (columns .tags)) × (columns .count ≤ length (columns .forms)) × (first < 2 ^ 32) × (count < 65536) ⌝ }
     ensures { λ r. ⌜ r ≡ numberLook (now (book .entry)) columns first count k tag ⌝ }
 {
@@ -168,5 +175,17 @@ pub fn lookup(book: &[u8], which: Which, tag: u32) -> Looked
                 look_number(book, columns, first, count, k, tag)
             }
         },
+    }
+}
+
+// The stretch of the book that is the value's encoding: a string with its 00, a binary value with its length, a list with its count. Where the lookup
+// finds no value the stretch is empty.
+pub fn stretch<'a>(book: &'a [u8], which: Which, tag: u32) -> &'a [u8]
+    ensures { λ r. ⌜ now r ≡ stretchOf (now (book .entry)) which tag ⌝ }
+{
+    match lookup(book, which, tag) {
+        Looked::At(start, end) => &book[start..end],
+        Looked::Absent => &book[0..0],
+        Looked::Refused(_) => &book[0..0],
     }
 }
