@@ -35,19 +35,22 @@ pub key-is : (f : ℕ) → eqb (bitAnd (f / 2) 1) 1 ≡ keyBit f
 unfolding keyBit
 key-is f = rw (and-mask (f / 2) 1)
 
-module _ (flags p : List ℕ) (i f : ℕ) (k : Bool) (e : f ≡ getD flags i 0) (q : k ≡ keyBit f) where
-  pub held-key : (r : Bool) → k ≡ true → r ≡ isSet p i → r ≡ cond (keyBit (getD flags i 0)) (isSet p i) true
-  held-key r z y = rw (← e, ← q, z) y
+module _ (p : List ℕ) (i f : ℕ) (k : Bool) (q : k ≡ keyBit f) where
+  pub held-key : (r : Bool) → k ≡ true → r ≡ isSet p i → r ≡ cond (keyBit f) (isSet p i) true
+  held-key r z y = rw (← q, z) y
 
-  pub held-free : k ≡ false → true ≡ cond (keyBit (getD flags i 0)) (isSet p i) true
-  held-free z = rw (← e, ← q, z)
+  pub held-free : k ≡ false → true ≡ cond (keyBit f) (isSet p i) true
+  held-free z = rw (← q, z)
 
 module _ (forms flags p : List ℕ) (at i : ℕ) (inv : keysAt (drop i (slotsFrom forms flags)) i p at ≡ keysAt (slotsFrom forms flags) 0 p at) where
   pub keys-end : length forms ≤ i → clear ≡ keysAt (slotsFrom forms flags) 0 p at
   unfolding keysAt
   keys-end h = rw (drop-of-length-le (slotsFrom forms flags) {i = i} (rw (slots-many forms flags) h)) at inv
 
-  module _ (h : i < length forms) (b : Bool) (e : b ≡ cond (keyBit (getD flags i 0)) (isSet p i) true) where
+  module _ (h : i < length forms) (w : ℕ) (we : w ≡ getD flags i 0) (b : Bool) (be : b ≡ cond (keyBit w) (isSet p i) true) where
+    e : b ≡ cond (keyBit (getD flags i 0)) (isSet p i) true
+    e = rw we at be
+
     pub keys-absent : (v : Verdict) → not b ≡ true → v ≡ refused keyAbsent (at + i / 8) → v ≡ keysAt (slotsFrom forms flags) 0 p at
     unfolding keysAt
     keys-absent v z q =

@@ -26,11 +26,11 @@ fn flags_at(flags: &[u32], i: usize) -> u32
     if i < flags.len() { flags[i] } else { 0 }
 }
 
-// Whether column i has a value or need not have one.
-fn key_held(p: &[u8], flags: &[u32], i: usize) -> bool
-    ensures { λ r. ⌜ r ≡ cond (keyBit (getD (now (flags .entry)) i 0)) (isSet (now (p .entry)) i) true ⌝ }
+// Whether column i, with these flags, has a value or need not have one.
+pub fn key_held(p: &[u8], flags: u32, i: usize) -> bool
+    ensures { λ r. ⌜ r ≡ cond (keyBit flags) (isSet (now (p .entry)) i) true ⌝ }
 {
-    if is_key(flags_at(flags, i)) {
+    if is_key(flags) {
         return presence::has(p, i);
     }
     true
@@ -43,7 +43,7 @@ fn judge_keys(p: &[u8], forms: &[u8], flags: &[u32], at: usize) -> Verdict
 {
     let mut i = 0;
     while i < forms.len() {
-        if !key_held(p, flags, i) {
+        if !key_held(p, flags_at(flags, i), i) {
             return refuse(answers::KEY_ABSENT, at + i / 8);
         }
         i += 1;
