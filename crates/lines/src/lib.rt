@@ -82,6 +82,16 @@ fn hex_octet(out: &mut [u8; 4096], at: usize, b: u8) -> usize
     put(out, to, hex_digit(b % 16))
 }
 
+// Eight digits.
+pub fn hex_word(out: &mut [u8; 4096], at: usize, n: u32) -> usize
+    ensures { λ r. ⌜ r ≤ 4096 ⌝ }
+{
+    let to = hex_octet(out, at, (n / 16777216) as u8);
+    let to = hex_octet(out, to, (n / 65536 % 256) as u8);
+    let to = hex_octet(out, to, (n / 256 % 256) as u8);
+    hex_octet(out, to, (n % 256) as u8)
+}
+
 // Two digits an octet; `-` for none.
 pub fn hex(out: &mut [u8; 4096], at: usize, s: &[u8]) -> usize
     ensures { λ r. ⌜ r ≤ 4096 ⌝ }
