@@ -1,17 +1,17 @@
 // Answers each case of a stream by the ground crates' public functions: a line for each.
 // A case is a length of four octets and as many octets, of which the first says what is asked. tests/make.py has the list.
-mod out;
-
 use answers::Walk;
+use lines::NO_CASE;
+use lines::decimal;
+use lines::flush;
+use lines::hex;
+use lines::next_case;
+use lines::next_decimal;
+use lines::put;
+use lines::words;
 use octets::octet;
 use octets::word;
 use octets::word32;
-use out::decimal;
-use out::flush;
-use out::hex;
-use out::next_decimal;
-use out::put;
-use out::words;
 use whole::Number;
 ghost use Prim.Native.Nat.{_<_};
 
@@ -106,7 +106,7 @@ fn texts(s: &[u8], out: &mut [u8; 4096], at: usize) -> usize {
     texts_taken(&mut t[0..k + 2], k, out, at)
 }
 
-// ---- the serial and presence bits
+// ---- the serial, presence bits and words
 
 fn serial_decimal(s: &[u8], out: &mut [u8; 4096], at: usize) -> usize {
     decimal(out, at, serial::serial_of(s) as u64)
@@ -151,15 +151,6 @@ fn presence_read(s: &[u8], out: &mut [u8; 4096], at: usize) -> usize {
     next_decimal(out, at, presence::count(part, n) as u64)
 }
 
-fn bit_set(s: &mut [u8], out: &mut [u8; 4096], at: usize) -> usize {
-    if s.len() < 2 {
-        return at;
-    }
-    let i = two(s, 0);
-    presence::set_bit(&mut s[2..], i);
-    hex(out, at, &s[2..])
-}
-
 // A record of n columns with no values: its size and its presence octets.
 fn empty_record(s: &[u8], out: &mut [u8; 4096], at: usize) -> usize {
     let size = 4 + presence::octets_for(two(s, 0));
@@ -172,8 +163,6 @@ fn empty_record(s: &[u8], out: &mut [u8; 4096], at: usize) -> usize {
     hex(out, at, &t[0..size])
 }
 
-// ---- words, moves, clears and copies
-
 fn word_read(s: &[u8], out: &mut [u8; 4096], at: usize) -> usize {
     if s.len() < 3 {
         return at;
@@ -183,68 +172,84 @@ fn word_read(s: &[u8], out: &mut [u8; 4096], at: usize) -> usize {
     decimal(out, at, word(&s[3..], from, width))
 }
 
-fn word_written(s: &mut [u8], out: &mut [u8; 4096], at: usize) -> usize {
+// ---- octets changed where they stand: each function answers where the changed part begins, NO_CASE where there is none
+
+fn bit_set(s: &mut [u8]) -> usize {
+    if s.len() < 2 {
+        return NO_CASE;
+    }
+    let i = two(s, 0);
+    presence::set_bit(&mut s[2..], i);
+    2
+}
+
+fn word_written(s: &mut [u8]) -> usize {
     if s.len() < 11 {
-        return at;
+        return NO_CASE;
     }
     let width = octet(s, 0) as usize;
     let to = two(s, 1);
     let v = word(s, 3, 8);
     octets::put_word(&mut s[11..], to, width, v);
-    hex(out, at, &s[11..])
+    11
 }
 
-fn part_moved(s: &mut [u8], out: &mut [u8; 4096], at: usize) -> usize {
+fn part_moved(s: &mut [u8]) -> usize {
     if s.len() < 6 {
-        return at;
+        return NO_CASE;
     }
     let from = two(s, 0);
     let end = two(s, 2);
     let to = two(s, 4);
     octets::move_part(&mut s[6..], from, end, to);
-    hex(out, at, &s[6..])
+    6
 }
 
-fn part_cleared(s: &mut [u8], out: &mut [u8; 4096], at: usize) -> usize {
+fn part_cleared(s: &mut [u8]) -> usize {
     if s.len() < 4 {
-        return at;
+        return NO_CASE;
     }
     let from = two(s, 0);
     let end = two(s, 2);
     octets::clear(&mut s[4..], from, end);
-    hex(out, at, &s[4..])
+    4
 }
 
-fn part_copied(s: &mut [u8], out: &mut [u8; 4096], at: usize) -> usize {
+fn part_copied(s: &mut [u8]) -> usize {
     if s.len() < 4 {
-        return at;
+        return NO_CASE;
     }
     let to = two(s, 0);
     let n = two(s, 2);
     if s.len() - 4 < n {
-        return at;
+        return NO_CASE;
     }
     let mut source = io::large_buffer();
     octets::copy(&mut source, 0, &s[4..4 + n]);
     octets::copy(&mut s[4 + n..], to, &source[0..n]);
-    hex(out, at, &s[4 + n..])
+    4 + n
+}
+
+fn change(what: u32, s: &mut [u8]) -> usize {
+    match what {
+        7 => bit_set(s),
+        9 => word_written(s),
+        10 => part_moved(s),
+        11 => part_cleared(s),
+        12 => part_copied(s),
+        _ => NO_CASE,
+    }
+}
+
+fn changed(what: u32, s: &mut [u8], out: &mut [u8; 4096], at: usize) -> usize {
+    let from = change(what, s);
+    if s.len() < from {
+        return words(out, at, b"no such case");
+    }
+    hex(out, at, &s[from..])
 }
 
 // ---- the stream
-
-fn answer_octets(what: u32, s: &mut [u8], out: &mut [u8; 4096], at: usize) -> usize {
-    match what {
-        7 => bit_set(s, out, at),
-        8 => word_read(s, out, at),
-        9 => word_written(s, out, at),
-        10 => part_moved(s, out, at),
-        11 => part_cleared(s, out, at),
-        12 => part_copied(s, out, at),
-        13 => empty_record(s, out, at),
-        14 => texts(s, out, at),
-        _ => words(out, at, b"no such case"),
-    }
-}
 
 fn answer(what: u32, s: &mut [u8], out: &mut [u8; 4096], at: usize) -> usize {
     match what {
@@ -254,19 +259,19 @@ fn answer(what: u32, s: &mut [u8], out: &mut [u8; 4096], at: usize) -> usize {
         4 => serial_decimal(s, out, at),
         5 => presence_octets(s, out, at),
         6 => presence_read(s, out, at),
-        _ => answer_octets(what, s, out, at),
+        8 => word_read(s, out, at),
+        13 => empty_record(s, out, at),
+        14 => texts(s, out, at),
+        _ => changed(what, s, out, at),
     }
 }
 
-// Reads a case of n octets and answers it.
-fn one_case(n: usize, buf: &mut [u8], out: &mut [u8; 4096], at: usize) -> usize {
+// Answers the case that is the first n octets of the buffer.
+fn one_case(buf: &mut [u8], n: usize, out: &mut [u8; 4096], at: usize) -> usize {
     if n < 1 {
         return at;
     }
     if buf.len() < n {
-        return at;
-    }
-    if io::read_full(0, &mut buf[0..n]) < n {
         return at;
     }
     let what = octet(buf, 0);
@@ -275,15 +280,15 @@ fn one_case(n: usize, buf: &mut [u8], out: &mut [u8; 4096], at: usize) -> usize 
 }
 
 // Cases follow until the input ends.
-fn all_cases(buf: &mut [u8], out: &mut [u8; 4096]) -> usize {
+fn all_cases(buf: &mut [u8; 65536], out: &mut [u8; 4096]) -> usize {
     let mut at = 0;
     let mut k: usize = 0;
     while k < 100000 {
-        let mut head = [0u8; 4];
-        if io::read_full(0, &mut head) < 4 {
+        let n = next_case(buf);
+        if n == NO_CASE {
             return at;
         }
-        at = one_case(word32(&head, 0) as usize, buf, out, at);
+        at = one_case(buf, n, out, at);
         k += 1;
     }
     at

@@ -1,12 +1,10 @@
-use lib.ListN.{length}
 use Prim.Native.Nat.{_-_, _≤_}
-use mathlib.Core.Path.{_≡_}
 use borrow.Author.Needs.{needs}
 use Rattle.ground_cases.proofs.all_cases.Statement.{statement}
 use Rattle.ground_cases.proofs.all_cases.Tie as tie
 
 abbrev Inv-loop : tie.InvT-loop
-Inv-loop buf₀ out₀ at₀ k₀ buf out at k = (k ≤ 100000) × (length buf ≡ length buf₀)
+Inv-loop buf₀ out₀ at₀ k₀ buf out at k = k ≤ 100000
 
 abbrev μ-loop : tie.MeasureT-loop
 μ-loop buf₀ out₀ at₀ k₀ buf out at k = 100000 - k
@@ -14,26 +12,11 @@ abbrev μ-loop : tie.MeasureT-loop
 loop-holds : tie.Need-loop-holds Inv-loop μ-loop
 loop-holds c = search needs
 
-slice-aggregate-read-full : tie.Need-slice-aggregate-read-full Inv-loop μ-loop
-slice-aggregate-read-full c = search needs
-
-read-full-requires : tie.Need-read-full-requires Inv-loop μ-loop
-read-full-requires c κs = search needs
-
-same-length : tie.Need-same-length Inv-loop μ-loop
-same-length c = search needs
+next-case-requires : tie.Need-next-case-requires Inv-loop μ-loop
+next-case-requires c κs = search needs
 
 returns : tie.Need-returns Inv-loop μ-loop
 returns c = search needs
-
-slice-aggregate-word32 : tie.Need-slice-aggregate-word32 Inv-loop μ-loop
-slice-aggregate-word32 c = search needs
-
-word32-requires : tie.Need-word32-requires Inv-loop μ-loop
-word32-requires c κs = search needs
-
-cast-one-case : tie.Need-cast-one-case Inv-loop μ-loop
-cast-one-case c = search needs
 
 one-case-requires : tie.Need-one-case-requires Inv-loop μ-loop
 one-case-requires c κs = search needs
@@ -47,9 +30,6 @@ loop-less c = search needs
 loop-again : tie.Need-loop-again Inv-loop μ-loop
 loop-again c = search needs
 
-same-length-2 : tie.Need-same-length-2 Inv-loop μ-loop
-same-length-2 c = search needs
-
 returns-2 : tie.Need-returns-2 Inv-loop μ-loop
 returns-2 c = search needs
 
@@ -60,16 +40,10 @@ all-cases-spec =
     Inv-loop
     μ-loop
     loop-holds
-    slice-aggregate-read-full
-    read-full-requires
-    same-length
+    next-case-requires
     returns
-    slice-aggregate-word32
-    word32-requires
-    cast-one-case
     one-case-requires
     add-k
     loop-less
     loop-again
-    same-length-2
     returns-2)

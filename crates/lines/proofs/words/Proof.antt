@@ -1,14 +1,17 @@
 use lib.ListN.{length}
 use Prim.Native.Nat.{_-_, _≤_}
 use borrow.Author.Needs.{needs}
-use Rattle.ground_cases.proofs.out.words.Statement.{statement}
-use Rattle.ground_cases.proofs.out.words.Tie as tie
+use Rattle.lines.proofs.words.Statement.{statement}
+use Rattle.lines.proofs.words.Tie as tie
 
 abbrev Inv-loop : tie.InvT-loop
-Inv-loop out₀ at s at₀ i₀ out at' i = i ≤ length s
+Inv-loop out₀ at s to₀ i₀ out to i = (i ≤ length s) × (to ≤ 4096)
 
 abbrev μ-loop : tie.MeasureT-loop
-μ-loop out₀ at s at₀ i₀ out at' i = length s - i
+μ-loop out₀ at s to₀ i₀ out to i = length s - i
+
+place-requires : tie.Need-place-requires Inv-loop μ-loop
+place-requires c κs = search needs
 
 loop-holds : tie.Need-loop-holds Inv-loop μ-loop
 loop-holds c = search needs
@@ -37,6 +40,7 @@ words-spec =
     (tie.spec
     Inv-loop
     μ-loop
+    place-requires
     loop-holds
     shared-slice-read-put
     put-requires

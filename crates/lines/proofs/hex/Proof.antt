@@ -1,20 +1,23 @@
 use lib.ListN.{length}
 use Prim.Native.Nat.{_-_, _≤_}
 use borrow.Author.Needs.{needs}
-use Rattle.ground_cases.proofs.out.hex.Statement.{statement}
-use Rattle.ground_cases.proofs.out.hex.Tie as tie
+use Rattle.lines.proofs.hex.Statement.{statement}
+use Rattle.lines.proofs.hex.Tie as tie
 
 abbrev Inv-loop : tie.InvT-loop
-Inv-loop out₀ at s at₀ i₀ out at' i = i ≤ length s
+Inv-loop out₀ at s to₀ i₀ out to i = (i ≤ length s) × (to ≤ 4096)
 
 abbrev μ-loop : tie.MeasureT-loop
-μ-loop out₀ at s at₀ i₀ out at' i = length s - i
+μ-loop out₀ at s to₀ i₀ out to i = length s - i
 
 put-requires : tie.Need-put-requires Inv-loop μ-loop
 put-requires c κs = search needs
 
 returns : tie.Need-returns Inv-loop μ-loop
 returns c = search needs
+
+place-requires : tie.Need-place-requires Inv-loop μ-loop
+place-requires c κs = search needs
 
 loop-holds : tie.Need-loop-holds Inv-loop μ-loop
 loop-holds c = search needs
@@ -45,6 +48,7 @@ hex-spec =
     μ-loop
     put-requires
     returns
+    place-requires
     loop-holds
     shared-slice-read-hex-octet
     hex-octet-requires
