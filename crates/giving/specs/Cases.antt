@@ -1,12 +1,12 @@
 -- The ways of the calls, on plain values: what a clear verdict stands on, what it makes of state and octets, and a refusal.
-use Prim.Native.Nat.{ℕ, zero, suc, _+_, _-_, _*_, _/_, _%_, _≤_, _<_}
+use Prim.Native.Nat.{ℕ, zero, suc, _+_, _-_, _*_, _%_, _≤_, _<_}
 use native.Mathlib.Omega.{arith}
 use mathlib.Core.Path.{_≡_, refl, sym, ap, _∙_}
 use mathlib.Core.Bool.{Bool, true, false, cond, not}
-use mathlib.Core.List.{List, [], _∷_, _++_, append-nil}
+use mathlib.Core.List.{List, append-nil}
 use lib.Dec.{eqb}
 use lib.ListN.{length, take, drop, length-drop, drop-of-length-le}
-use borrow.Author.Tests.{eq-eqb, ne-eqb, eqb-true, eqb-false, not-true}
+use borrow.Author.Tests.{eq-eqb, ne-eqb, eqb-true}
 use borrow.Rule.Slice.PartMut.{putMid}
 use Rattle.octets.specs.Cases.{taken}
 use Rattle.octets.specs.Octets.{rest-of}
@@ -16,18 +16,17 @@ use Rattle.answers.specs.Numbers.{outOfTurn, breaksForm, mostOctets}
 use Rattle.answers.specs.declared.Refusal.{Refusal}
 use Rattle.answers.specs.declared.Verdict.{Verdict}
 use Rattle.answers.specs.declared.Verdict.the-variants.{Clear as clear, Refused}
-use Rattle.answers.specs.Verdict.{refused, _then_, need, apart, unmet}
+use Rattle.answers.specs.Verdict.{refused, need, apart, unmet}
 use Rattle.presence.specs.Presence.{setBit}
-use Rattle.value.specs.Types.{Form, numberOf, formAt, formOf}
+use Rattle.value.specs.Types.{numberOf, formAt, formOf}
 use Rattle.table.specs.declared.Found.{Found}
 use Rattle.table.specs.declared.Found.the-variants.{At, Nothing}
 use Rattle.writing.specs.declared.Writing.{Writing}
 use Rattle.writing.specs.declared.Outcome.{Outcome}
-use Rattle.writing.specs.declared.Written.{Written}
 use Rattle.writing.specs.declared.Written.the-variants as written
-use Rattle.writing.specs.State.{settled, kept, doneWith, columnsOf, withinOf, roomAt, Roomy, room-in, Within, within-in, both-true}
+use Rattle.writing.specs.State.{settled, kept, doneWith, columnsOf, withinOf, roomAt, Roomy, room-in, Within, within-in}
 use Rattle.writing.specs.Column.{rowFrom, columnFor}
-use Rattle.giving.specs.Give.{Given, Octets, formed, octetsFor, isFound, columnOf, leftOf, formLeft, givenTo, marked, giveAt, giveNext, giveOutcome, giveOctets, elementForm, dueForm, elementAt, addedTo, elementNext, elementOutcome, elementOctets}
+use Rattle.giving.specs.Give.{Given, Octets, formed, octetsFor, isFound, columnOf, leftOf, formLeft, givenTo, marked, giveAt, giveOutcome, giveOctets, elementForm, dueForm, elementAt, addedTo, elementOutcome, elementOctets}
 use Rattle.giving.specs.Size.{sizeOf, sizedAt, placedAt, addedAt, sized, octets-long}
 
 -- ---- what a clear verdict stands on

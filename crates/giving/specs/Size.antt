@@ -2,7 +2,7 @@
 -- computes it, by the number of a form, and of the code that stores the octets.
 use Prim.Native.Nat.{ℕ, zero, suc, _+_, _-_, _≤_, _<_}
 use native.Mathlib.Omega.{arith}
-use mathlib.Core.Path.{_≡_, refl, sym, ap, _∙_}
+use mathlib.Core.Path.{_≡_, refl, ap, _∙_}
 use mathlib.Core.Bool.{Bool, true, false, cond, not}
 use mathlib.Core.List.{List, [], _∷_, _++_, append-assoc}
 use lib.Dec.{ltb, eqb}
@@ -19,11 +19,11 @@ use Rattle.answers.specs.Walk.{endsAt}
 use Rattle.whole.specs.Number.{encodeNumber}
 use Rattle.text.specs.Narrow.{narrowOf}
 use Rattle.text.specs.Utf8.{textOf}
-use Rattle.value.specs.Types.{Kind, nothing, number, truth, narrow, text, binary, Form, one, many, unknown, kindNumber, kindAt, formAt}
+use Rattle.value.specs.Types.{Kind, nothing, number, truth, narrow, text, binary, Form, one, kindNumber, kindAt, formAt}
 use Rattle.writing.specs.declared.Writing.{Writing}
 use Rattle.writing.specs.State.{withinOf, roomAt}
 use Rattle.writing.specs.Column.{columnFor}
-use Rattle.giving.specs.Give.{Given, Number, Truth, Octets, Count, isOne, isMany, octetsOf, octetsFormed, formed, octetsFor, elementForm, isFound}
+use Rattle.giving.specs.Give.{Given, Number, Truth, Octets, Count, isOne, octetsOf, octetsFormed, formed, octetsFor, elementForm, isFound}
 
 abbrev pub sizeOf : Form → Given → ℕ
 sizeOf f v = cond (formed f v) (length (octetsFor f v)) 0

@@ -6,7 +6,7 @@ use lib.Dec.{eqb}
 use mathlib.Core.Path.{_≡_, refl, sym, ap, _∙_}
 use mathlib.Core.List.{List, [], _∷_, _++_}
 use lib.ListN.{length, getD, drop, drop-of-length-le, length-append, length-drop, List·getD-append, List·getD-eq-default}
-use lib.Seq.{drop-cons, drop-drop, drop-at, getD-drop, getD-append-add}
+use lib.Seq.{drop-cons, drop-drop, getD-drop, getD-append-add}
 use native.Mathlib.Numerals.{add-one}
 use borrow.Author.Tests.{eq-eqb, ne-eqb}
 use mathlib.Core.Bool.{true, false, cond}
@@ -17,7 +17,7 @@ use Rattle.answers.specs.declared.Walk.the-variants.{Ends}
 use Rattle.answers.specs.Walk.{broken, endsAt}
 use Rattle.text.specs.Narrow.{narrowFrom, narrowOf}
 use Rattle.text.specs.Utf8.{lowOf, highOf, widthOf, charWidth, textFrom, textOf}
-use Rattle.text.specs.Char.{Char, char-sound}
+use Rattle.text.specs.Char.{char-sound}
 use Rattle.text.specs.Text.{skip}
 
 module _ (s : List ℕ) (i : ℕ) (inv : narrowFrom i (drop i s) ≡ narrowOf s) where

@@ -1,5 +1,4 @@
 use Rattle.giving.specs.Size.{elements}
-use borrow.Author.Needs.{needs}
 use Rattle.giving.proofs.size.element_form.Statement.{statement}
 use Rattle.giving.proofs.size.element_form.Tie as tie
 use Rattle.giving.proofs.size.element_form.Reads as reads

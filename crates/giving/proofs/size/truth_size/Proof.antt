@@ -1,5 +1,4 @@
 use Rattle.giving.specs.Size.{sizes}
-use borrow.Author.Needs.{needs}
 use Rattle.giving.proofs.size.truth_size.Statement.{statement}
 use Rattle.giving.proofs.size.truth_size.Tie as tie
 use Rattle.giving.proofs.size.truth_size.Reads as reads
