@@ -2,7 +2,10 @@
 use answers::Walk;
 use octets::octet;
 ghost use mathlib.Core.Path.{_≡_};
-ghost use Prim.Native.Nat.{_<_};
+ghost use mathlib.Core.List.{[], _∷_, _++_};
+ghost use Prim.Native.Nat.{_+_, _<_};
+ghost use lib.ListN.{length};
+ghost use Rattle.answers.specs.Walk.{endsAt};
 ghost use Rattle.text.specs.Narrow.{narrowOf};
 ghost use Rattle.text.specs.Utf8.{lowOf, highOf, widthOf, charWidth, textOf};
 
@@ -119,4 +122,42 @@ pub fn utf8_string(s: &[u8]) -> Walk
         i += k;
     }
     Walk::Broken(0)
+}
+
+// Whether the octets, handed over without their 0, are a narrow string: one or more, none of them 0.
+pub fn is_narrow(s: &[u8]) -> bool
+    ensures { λ r. ⌜ r ≡ endsAt (narrowOf (now (s .entry) ++ (0 ∷ []))) (length (now (s .entry)) + 1) ⌝ }
+{
+    if s.len() == 0 {
+        return false;
+    }
+    let mut i = 0;
+    while i < s.len() {
+        if s[i] == 0 {
+            return false;
+        }
+        i += 1;
+    }
+    true
+}
+
+// The same of UTF-8: one character or more, none of them 0.
+pub fn is_utf8(s: &[u8]) -> bool
+    ensures { λ r. ⌜ r ≡ endsAt (textOf (now (s .entry) ++ (0 ∷ []))) (length (now (s .entry)) + 1) ⌝ }
+{
+    if s.len() == 0 {
+        return false;
+    }
+    let mut i = 0;
+    while i < s.len() {
+        if s[i] == 0 {
+            return false;
+        }
+        let k = char_at(s, i);
+        if k == 0 {
+            return false;
+        }
+        i += k;
+    }
+    true
 }

@@ -1,0 +1,3 @@
+pub mod Give
+pub mod Size
+pub mod Cases

@@ -1,0 +1,64 @@
+use borrow.Author.Needs.{needs}
+use Prim.Native.Nat.{_≤_, _-_}
+use mathlib.Core.Path.{_≡_}
+use lib.ListN.{length, drop}
+use Rattle.text.specs.Utf8.{textFrom, textOf}
+use Rattle.text.specs.Cases.{closed, chars}
+use Rattle.text.proofs.is_utf8.Statement.{statement}
+use Rattle.text.proofs.is_utf8.Tie as tie
+use Rattle.text.proofs.is_utf8.Reads as reads
+use Rattle.text.proofs.is_utf8.Lts as lts
+use Rattle.text.proofs.char_at.Reads as char-at-reads
+
+abbrev Inv-loop : tie.InvT-loop
+Inv-loop s i₀ i = (i ≤ length s) × (textFrom 0 i (drop i (closed s)) ≡ textOf (closed s))
+
+abbrev μ-loop : tie.MeasureT-loop
+μ-loop s i₀ i = length s - i
+
+returns : tie.Need-returns Inv-loop μ-loop
+returns c = search chars
+
+loop-holds : tie.Need-loop-holds Inv-loop μ-loop
+loop-holds c = search needs
+
+shared-slice-read-if2 : tie.Need-shared-slice-read-if2 Inv-loop μ-loop
+shared-slice-read-if2 c = search needs
+
+returns-2 : tie.Need-returns-2 Inv-loop μ-loop
+returns-2 c = search chars
+
+char-at-requires : tie.Need-char-at-requires Inv-loop μ-loop
+char-at-requires c κs = search needs
+
+returns-3 : tie.Need-returns-3 Inv-loop μ-loop
+returns-3 c = search chars
+
+add-i : tie.Need-add-i Inv-loop μ-loop
+add-i c = search needs
+
+loop-less : tie.Need-loop-less Inv-loop μ-loop
+loop-less c = search needs
+
+loop-again : tie.Need-loop-again Inv-loop μ-loop
+loop-again c = search (needs, chars)
+
+returns-4 : tie.Need-returns-4 Inv-loop μ-loop
+returns-4 c = search chars
+
+pub is-utf8-spec : {M : Type 1} → statement M
+is-utf8-spec =
+    tie.close
+    (tie.spec
+    Inv-loop
+    μ-loop
+    returns
+    loop-holds
+    shared-slice-read-if2
+    returns-2
+    char-at-requires
+    returns-3
+    add-i
+    loop-less
+    loop-again
+    returns-4)
