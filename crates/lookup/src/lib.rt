@@ -1,4 +1,5 @@
-// A value by its record and its whole tag: the book is judged first, then the record is walked over up to the value. Nothing is written.
+// A value by its record and its whole tag: the book is judged first, then the record is walked over up to the value. A record is named by what it is, or by
+// the place where it starts. Nothing is written.
 use answers::Refusal;
 use answers::Walk;
 use book::Judged;
@@ -11,10 +12,12 @@ ghost use Prim.Native.Nat.{_+_, _^_, _≤_, _<_};
 ghost use lib.ListN.{length, take, drop};
 ghost use Rattle.presence.specs.Presence.{room};
 ghost use Rattle.entry.specs.Slots.{slotsFrom};
-ghost use Rattle.book.specs.Judged.{Fits128};
 ghost use Rattle.lookup.specs.Places.{walkTo};
-ghost use Rattle.lookup.specs.Look.{noSuch, seekFrom, seekIn, columnIn, lookupOf, stretchOf};
+ghost use Rattle.lookup.specs.Look.{noSuch, seekFrom, seekIn, columnIn, lookupOf, stretchBy, stretchOf};
+ghost use Rattle.lookup.specs.Placed.{placedOf, lookupAt, stretchAt};
+ghost use Rattle.lookup.specs.Within.{Within};
 ghost use Rattle.lookup.specs.Cases.{seekInside, lookFor, numberLook};
+ghost use Rattle.lookup.specs.PlaceCases.{numberPlace, numberAt, thereLook};
 
 // The header record, or an address record by its number from 0.
 pub enum Which {
@@ -26,6 +29,12 @@ pub enum Which {
 pub enum Looked {
     At(usize, usize),
     Absent,
+    Refused(Refusal),
+}
+
+// The place where a record starts; or the refusal.
+pub enum Placed {
+    At(usize),
     Refused(Refusal),
 }
 
@@ -178,14 +187,125 @@ pub fn lookup(book: &[u8], which: Which, tag: u32) -> Looked
     }
 }
 
-// The stretch of the book that is the value's encoding: a string with its 00, a binary value with its length, a list with its count. Where the lookup
-// finds no value the stretch is empty.
-pub fn stretch<'a>(book: &'a [u8], which: Which, tag: u32) -> &'a [u8]
-    ensures { λ r. ⌜ now r ≡ stretchOf (now (book .entry)) which tag ⌝ }
+// The stretch of the book that a lookup found: a string with its 00, a binary value with its length, a list with its count. Where it found no value the
+// stretch is empty.
+fn cut<'a>(book: &'a [u8], found: Looked) -> &'a [u8]
+    requires { ⌜ Within (now book) found ⌝ }
+    ensures { λ r. ⌜ now r ≡ stretchBy (now (book .entry)) found ⌝ }
 {
-    match lookup(book, which, tag) {
+    match found {
         Looked::At(start, end) => &book[start..end],
         Looked::Absent => &book[0..0],
         Looked::Refused(_) => &book[0..0],
     }
+}
+
+// The stretch of the book that is the value's encoding.
+pub fn stretch<'a>(book: &'a [u8], which: Which, tag: u32) -> &'a [u8]
+    ensures { λ r. ⌜ now r ≡ stretchOf (now (book .entry)) which tag ⌝ }
+{
+    let found = lookup(book, which, tag);
+    cut(book, found)
+}
+
+// ---- by the place of a record
+
+fn place_number(book: &[u8], first: usize, count: usize, k: usize) -> Placed
+    requires { ⌜ (first < 2 ^ 32) × (count < 65536) ⌝ }
+    ensures { λ r. ⌜ r ≡ numberPlace (now (book .entry)) first count k ⌝ }
+{
+    if count <= k {
+        return Placed::Refused(Refusal {
+            number: answers::OUT_OF_TURN,
+            place: 0,
+        });
+    }
+    Placed::At(walk_to(book, first, k))
+}
+
+// The place of a record.
+pub fn place_of(book: &[u8], which: Which) -> Placed
+    ensures { λ r. ⌜ r ≡ placedOf (now (book .entry)) which ⌝ }
+{
+    let j = book::judge(book);
+    let judged = j.judged;
+    match judged {
+        Judged::Refused(r) => Placed::Refused(r),
+        Judged::Good {
+            length: _,
+            count,
+            header,
+            first,
+        } => match which {
+            Which::Header => Placed::At(header),
+            Which::Number(k) => place_number(book, first, count, k),
+        },
+    }
+}
+
+// The number of the address record that starts at a place.
+fn number_at(book: &[u8], first: usize, count: usize, at: usize) -> Found
+    requires { ⌜ (first < 2 ^ 32) × (count < 65536) ⌝ }
+    ensures { λ r. ⌜ r ≡ numberAt (now (book .entry)) first count at ⌝ }
+{
+    let mut k = 0;
+    let mut i = first;
+    while k < count {
+        if i == at {
+            return Found::At(k);
+        }
+        i += word32(book, i) as usize;
+        k += 1;
+    }
+    Found::Nothing
+}
+
+// The value with a tag in the address record that starts at a place.
+fn look_there(
+    book: &[u8],
+    columns: Columns,
+    first: usize,
+    count: usize,
+    at: usize,
+    tag: u32,
+) -> Looked
+    requires { ⌜ (columns .count ≤ length (columns .tags)) × (columns .count ≤ length (columns .forms)) × (first < 2 ^ 32) × (count < 65536) ⌝ }
+    ensures { λ r. ⌜ r ≡ thereLook (now (book .entry)) columns first count at tag ⌝ }
+{
+    let Found::At(_) = number_at(book, first, count, at) else {
+        return no_such();
+    };
+    look_in(book, columns, at, tag)
+}
+
+// The value of the record that starts at a place, with a whole tag of that record's table. No earlier call's answer is relied on.
+pub fn lookup_at(book: &[u8], at: usize, tag: u32) -> Looked
+    ensures { λ r. ⌜ r ≡ lookupAt (now (book .entry)) at tag ⌝ }
+{
+    let j = book::judge(book);
+    let judged = j.judged;
+    match judged {
+        Judged::Refused(r) => Looked::Refused(r),
+        Judged::Good {
+            length: _,
+            count,
+            header,
+            first,
+        } => {
+            if at == header {
+                let columns = j.header;
+                return look_in(book, columns, header, tag);
+            }
+            let columns = j.address;
+            look_there(book, columns, first, count, at, tag)
+        }
+    }
+}
+
+// The stretch of the book that is that value's encoding.
+pub fn stretch_at<'a>(book: &'a [u8], at: usize, tag: u32) -> &'a [u8]
+    ensures { λ r. ⌜ now r ≡ stretchAt (now (book .entry)) at tag ⌝ }
+{
+    let found = lookup_at(book, at, tag);
+    cut(book, found)
 }

@@ -51,3 +51,18 @@ below-case n i none false h d = let z : _≡_ {A = ℕ} 0 1 = cc in absurd (omeg
 pub first-below : (p : ℕ → Bool) (n i : ℕ) → first p n ≡ some i → i < n
 first-below p zero i e = let z : _≡_ {A = ℕ} 0 1 = cc in absurd (omega arith)
 first-below p (suc n) i e = below-case n i (first p n) (p n) (first-below p n i) e
+
+-- and the test holds of it
+holds-case : (p : ℕ → Bool) (n i : ℕ) (o : Option ℕ) (b : Bool) → p n ≡ b → (o ≡ some i → p i ≡ true) → orElse o (cond b (some n) none) ≡ some i → p i ≡ true
+holds-case p n i (some j) b q h d = h d
+holds-case p n i none true q h d = let g : n ≡ i = cc in rw g at q
+holds-case p n i none false q h d = let z : _≡_ {A = ℕ} 0 1 = cc in absurd (omega arith)
+
+pub first-holds : (p : ℕ → Bool) (n i : ℕ) → first p n ≡ some i → p i ≡ true
+first-holds p zero i e = let z : _≡_ {A = ℕ} 0 1 = cc in absurd (omega arith)
+first-holds p (suc n) i e = holds-case p n i (first p n) (p n) refl (first-holds p n i) e
+
+-- nothing is found where it holds of none
+pub first-none : (p : ℕ → Bool) (n : ℕ) → ((i : ℕ) → i < n → p i ≡ false) → first p n ≡ none
+first-none p zero h = refl
+first-none p (suc n) h = rw (first-none p n (λ i l. h i (omega arith)), h n (omega arith))

@@ -1,0 +1,50 @@
+// A view of a book: it holds the book's slice and the place where a record starts. Its functions are thin: each takes the view apart and leaves the work to
+// the lookup on plain parameters. Other code calls `value_of`, whose parameters are plain.
+use lookup::Looked;
+use lookup::Placed;
+use lookup::Which;
+ghost use mathlib.Core.Path.{_≡_};
+ghost use Rattle.lookup.specs.Look.{stretchOf};
+ghost use Rattle.lookup.specs.Placed.{lookupAt, stretchAt};
+
+pub struct View<'a> {
+    pub book: &'a [u8],
+    pub at: usize,
+}
+
+pub fn view_of<'a>(book: &'a [u8], at: usize) -> View<'a>
+    ensures { λ r. ⌜ (r .book ≡ book .entry) × (r .at ≡ at) ⌝ }
+{
+    View { book, at }
+}
+
+// The value of the record that the view is of, with a whole tag.
+pub fn view_lookup<'a>(v: View<'a>, tag: u32) -> Looked
+    ensures { λ r. ⌜ r ≡ lookupAt (now (v .entry .book)) (v .entry .at) tag ⌝ }
+{
+    lookup::lookup_at(v.book, v.at, tag)
+}
+
+// The stretch of the book that is that value's encoding; empty where there is no value.
+pub fn view_stretch<'a>(v: View<'a>, tag: u32) -> &'a [u8]
+    ensures { λ r. ⌜ now r ≡ stretchAt (now (v .entry .book)) (v .entry .at) tag ⌝ }
+{
+    lookup::stretch_at(v.book, v.at, tag)
+}
+
+// What a view of the record at a place hands back. Its parameters are plain, so that its callers are.
+fn seen<'a>(book: &'a [u8], at: usize, tag: u32) -> &'a [u8]
+    ensures { λ r. ⌜ now r ≡ stretchAt (now (book .entry)) at tag ⌝ }
+{
+    view_stretch(view_of(book, at), tag)
+}
+
+// The stretch of the book that is the value of a record with a whole tag, by a view of that record; empty where there is no value.
+pub fn value_of<'a>(book: &'a [u8], which: Which, tag: u32) -> &'a [u8]
+    ensures { λ r. ⌜ now r ≡ stretchOf (now (book .entry)) which tag ⌝ }
+{
+    match lookup::place_of(book, which) {
+        Placed::At(at) => seen(book, at, tag),
+        Placed::Refused(_) => &book[0..0],
+    }
+}
