@@ -51,18 +51,16 @@ knownTo (t ∷ ts) = cond (isType (t % 65536)) (suc (knownTo ts)) 0
 
 -- ---- the state
 
-abbrev pub startOf : ℕ → ℕ → ℕ → ℕ → Writing
-startOf w h a s = record { written = w; header = h; address = a; opened = 0; start = 0; next = 0; left = 0; form = 0; stage = s }
+abbrev pub beginNext : ℕ → ℕ → Writing
+beginNext h a = record { written = startSize h a; header = h; address = a; opened = 0; start = 0; next = 0; left = 0; form = 0; stage = 0 }
 
-abbrev pub begun : ℕ → ℕ → Writing
-begun h a = startOf (startSize h a) h a 0
-
--- what a refused begin hands back: a state that no call takes up
+-- before the first begin
 abbrev pub noWriting : Writing
-noWriting = startOf 0 0 0 1
+noWriting = record { written = 0; header = 0; address = 0; opened = 0; start = 0; next = 0; left = 0; form = 0; stage = 1 }
 
-unfoldable pub beginOutcome : List ℕ → List ℕ → List ℕ → List ℕ → List ℕ → Outcome
-beginOutcome ht hf ts fs d = settled (beginAt ht hf ts fs (length d)) noWriting (begun (length ht) (length ts))
+-- begin is never out of turn: what was in progress is only left, where begin is refused
+unfoldable pub beginOutcome : Writing → List ℕ → List ℕ → List ℕ → List ℕ → List ℕ → Outcome
+beginOutcome st ht hf ts fs d = settled (beginAt ht hf ts fs (length d)) st (beginNext (length ht) (length ts))
 
 -- ---- the octets
 

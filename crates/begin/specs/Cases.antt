@@ -28,7 +28,7 @@ use Rattle.book.specs.Book.{metaSize, tablesOctets}
 use Rattle.writing.specs.State.{settled, kept, doneWith}
 use Rattle.writing.specs.declared.Writing.{Writing}
 use Rattle.writing.specs.declared.Outcome.{Outcome}
-use Rattle.begin.specs.Begin.{rowsAt, tagsAt, startSize, beginAt, knownTo, startOf, begun, noWriting, beginOutcome, columnsFrom, rowOctets, headOctets, startOctets, beginOctets}
+use Rattle.begin.specs.Begin.{rowsAt, tagsAt, startSize, beginAt, knownTo, beginNext, beginOutcome, columnsFrom, rowOctets, headOctets, startOctets, beginOctets}
 use Rattle.begin.specs.Join.{stored-join}
 
 -- ---- known
@@ -280,9 +280,9 @@ start-put ht hf ts fs d b x₁ x₂ x₃ p₁ p₂ p₃ =
     rw (from-long ht hf (b .heads), from-long ts fs (b .rows)) f₃
 
 module _ (ht hf ts fs d : List ℕ) (v : Verdict) (e : v ≡ beginAt ht hf ts fs (length d)) where
-  pub begin-refused : (r : Refusal) (st : Writing) (o : Outcome) → st ≡ noWriting → v ≡ Refused r → o ≡ settled v st st → o ≡ beginOutcome ht hf ts fs d
+  pub begin-refused : (st : Writing) (r : Refusal) (o : Outcome) → v ≡ Refused r → o ≡ settled v st st → o ≡ beginOutcome st ht hf ts fs d
   unfolding beginOutcome
-  begin-refused r st o s z q = q ∙ rw (← e, z, s)
+  begin-refused st r o z q = q ∙ rw (← e, z)
 
   pub begin-left : (r : Refusal) → v ≡ Refused r → d ≡ beginOctets ht hf ts fs d
   unfolding beginOctets
@@ -292,7 +292,7 @@ module _ (ht hf ts fs d : List ℕ) (v : Verdict) (e : v ≡ beginAt ht hf ts fs
     pub begin-keeps : Begins ht hf ts fs (length d)
     begin-keeps = begin-in ht hf ts fs (length d) (sym e ∙ z)
 
-    pub begin-done : (st next : Writing) (o : Outcome) → next ≡ begun (length ht) (length ts) → o ≡ settled v st next → o ≡ beginOutcome ht hf ts fs d
+    pub begin-done : (st next : Writing) (o : Outcome) → next ≡ beginNext (length ht) (length ts) → o ≡ settled v st next → o ≡ beginOutcome st ht hf ts fs d
     unfolding beginOutcome
     begin-done st next o n q = q ∙ rw (← e, z, n)
 

@@ -1,5 +1,5 @@
 // Beginning a book (document 01, "Writing a book"; reading 13): both tables are judged as they are handed over, then the header with serial and
-// count 0 and the metadata are written. A begin that is refused leaves every octet and hands back a state that no call takes up.
+// count 0 and the metadata are written. A begin that is refused leaves every octet and the writing in progress.
 use answers::Verdict;
 use answers::refuse;
 use octets::put_word;
@@ -11,7 +11,7 @@ ghost use Prim.Native.Nat.{_+_, _*_, _≤_};
 ghost use lib.ListN.{length};
 ghost use Rattle.octets.specs.Splice.{stored};
 ghost use Rattle.table.specs.Table.{columnsOctets, tableOctets};
-ghost use Rattle.begin.specs.Begin.{knownTo, tagsAt, columnsFrom, rowOctets, headOctets, beginAt, startOf, beginOutcome, beginOctets};
+ghost use Rattle.begin.specs.Begin.{knownTo, tagsAt, columnsFrom, rowOctets, headOctets, beginAt, beginNext, noWriting, beginOutcome, beginOctets};
 
 // The rows before the first whose type is not among the ten.
 fn known(tags: &[u32]) -> usize
@@ -108,12 +108,29 @@ fn put_table(buf: &mut [u8], at: usize, tags: &[u32], flags: &[u32])
     put_columns(buf, at + 4, tags, flags);
 }
 
-// The state between begin and the header record; with stage 1, one that no call takes up.
-fn start(written: usize, header: usize, address: usize, stage: u8) -> Writing
-    ensures { λ r. ⌜ r ≡ startOf written header address stage ⌝ }
+// The state before the first begin: no other call takes it up.
+pub fn no_writing() -> Writing
+    ensures { λ r. ⌜ r ≡ noWriting ⌝ }
 {
     Writing {
-        written,
+        written: 0,
+        header: 0,
+        address: 0,
+        opened: 0,
+        start: 0,
+        next: 0,
+        left: 0,
+        form: 0,
+        stage: 1,
+    }
+}
+
+fn begun(header: usize, address: usize) -> Writing
+    requires { ⌜ (header ≤ 128) × (address ≤ 128) ⌝ }
+    ensures { λ r. ⌜ r ≡ beginNext header address ⌝ }
+{
+    Writing {
+        written: 24 + 8 * (header + address),
         header,
         address,
         opened: 0,
@@ -121,24 +138,31 @@ fn start(written: usize, header: usize, address: usize, stage: u8) -> Writing
         next: 0,
         left: 0,
         form: 0,
-        stage,
+        stage: 0,
     }
 }
 
-pub fn begin(htags: &[u32], hflags: &[u32], tags: &[u32], flags: &[u32], buf: &mut [u8]) -> Outcome
-    ensures { λ r. ⌜ (r ≡ beginOutcome (now (htags .entry)) (now (hflags .entry)) (now (tags .entry)) (now (flags .entry)) (now (buf .entry)))
+// `st` is not asked for its turn: it is a writing in progress that a refused begin leaves as it is.
+pub fn begin(
+    st: Writing,
+    htags: &[u32],
+    hflags: &[u32],
+    tags: &[u32],
+    flags: &[u32],
+    buf: &mut [u8],
+) -> Outcome
+    ensures { λ r. ⌜ (r ≡ beginOutcome st (now (htags .entry)) (now (hflags .entry)) (now (tags .entry)) (now (flags .entry)) (now (buf .entry)))
         × (now (buf .exit) ≡ beginOctets (now (htags .entry)) (now (hflags .entry)) (now (tags .entry)) (now (flags .entry)) (now (buf .entry))) ⌝ }
 {
     let v = judge_begin(htags, hflags, tags, flags, buf.len());
-    let none = start(0, 0, 0, 1);
     let Verdict::Clear = v else {
-        return writing::settle(v, none, none);
+        return writing::settle(v, st, st);
     };
     let h = htags.len();
     let a = tags.len();
     put_head(buf, (12 + 8 * (h + a)) as u64);
     put_table(buf, 16, htags, hflags);
     put_table(buf, 20 + 8 * h, tags, flags);
-    let next = start(24 + 8 * (h + a), h, a, 0);
-    writing::settle(v, none, next)
+    let next = begun(h, a);
+    writing::settle(v, st, next)
 }

@@ -45,7 +45,14 @@ fn numbers(case: &[u8], at: usize, n: usize, to: &mut [u32])
 }
 
 // Reads the address columns, whose tags stand at `at`, and begins.
-fn begin_with(htags: &[u32], hflags: &[u32], case: &[u8], at: usize, buf: &mut [u8]) -> Outcome
+fn begin_with(
+    st: Writing,
+    htags: &[u32],
+    hflags: &[u32],
+    case: &[u8],
+    at: usize,
+    buf: &mut [u8],
+) -> Outcome
     requires { ⌜ at ≤ 4096 ⌝ }
 {
     let mut tags = [0u32; 256];
@@ -54,28 +61,18 @@ fn begin_with(htags: &[u32], hflags: &[u32], case: &[u8], at: usize, buf: &mut [
     let m = count(case, 4);
     numbers(case, at, n, &mut tags);
     numbers(case, at + 4 * n, m, &mut flags);
-    begin::begin(htags, hflags, &tags[0..n], &flags[0..m], buf)
+    begin::begin(st, htags, hflags, &tags[0..n], &flags[0..m], buf)
 }
 
 // Reads the header columns, then goes on with the address columns.
-fn call_begin(case: &[u8], buf: &mut [u8]) -> Outcome {
+fn call_begin(st: Writing, case: &[u8], buf: &mut [u8]) -> Outcome {
     let mut tags = [0u32; 256];
     let mut flags = [0u32; 256];
     let n = count(case, 1);
     let m = count(case, 2);
     numbers(case, 5, n, &mut tags);
     numbers(case, 5 + 4 * n, m, &mut flags);
-    begin_with(&tags[0..n], &flags[0..m], case, 5 + 4 * (n + m), buf)
-}
-
-// A begin takes no state and, refused, hands back one that no call takes up: the program keeps that of the last begin taken.
-fn begin_again(st: Writing, case: &[u8], buf: &mut [u8]) -> Outcome {
-    let outcome = call_begin(case, buf);
-    let answer = outcome.answer;
-    let Written::Refused(_) = answer else {
-        return outcome;
-    };
-    Outcome { answer, state: st }
+    begin_with(st, &tags[0..n], &flags[0..m], case, 5 + 4 * (n + m), buf)
 }
 
 fn call_value(what: u32, st: Writing, case: &[u8], buf: &mut [u8]) -> Outcome {
@@ -103,7 +100,7 @@ fn call_element(what: u32, st: Writing, case: &[u8], buf: &mut [u8]) -> Outcome 
 
 fn call(what: u32, st: Writing, case: &[u8], buf: &mut [u8]) -> Outcome {
     if what == 1 {
-        return begin_again(st, case, buf);
+        return call_begin(st, case, buf);
     }
     if what == 2 {
         return framing::open(st, buf);
@@ -128,21 +125,6 @@ fn fill(buf: &mut [u8]) {
     while i < buf.len() {
         buf[i] = 0xA5;
         i += 1;
-    }
-}
-
-// A state that no call but begin takes up.
-fn no_state() -> Writing {
-    Writing {
-        written: 0,
-        header: 0,
-        address: 0,
-        opened: 0,
-        start: 0,
-        next: 0,
-        left: 0,
-        form: 0,
-        stage: 1,
     }
 }
 
@@ -196,7 +178,7 @@ fn new_buffer(buf: &mut [u8], out: &mut [u8; 4096], at: usize) -> Step {
     let at = words(out, at, b"buffer");
     let at = next_decimal(out, at, buf.len() as u64);
     Step {
-        state: no_state(),
+        state: begin::no_writing(),
         at,
     }
 }
@@ -260,7 +242,7 @@ fn line(
 fn all_cases(case: &mut [u8; 65536], buf: &mut [u8; 65536], out: &mut [u8; 4096]) -> usize {
     let mut at = 0;
     let mut len = 0;
-    let mut st = no_state();
+    let mut st = begin::no_writing();
     let mut k: usize = 0;
     while k < 100000 {
         let n = next_case(case);

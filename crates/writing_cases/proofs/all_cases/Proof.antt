@@ -9,8 +9,8 @@ Inv-loop case₀ buf₀ out₀ at₀ len₀ st₀ k₀ case buf out at len st k 
 abbrev μ-loop : tie.MeasureT-loop
 μ-loop case₀ buf₀ out₀ at₀ len₀ st₀ k₀ case buf out at len st k = 100000 - k
 
-no-state-requires : tie.Need-no-state-requires Inv-loop μ-loop
-no-state-requires c κs = search needs
+no-writing-requires : tie.Need-no-writing-requires Inv-loop μ-loop
+no-writing-requires c κs = search needs
 
 loop-holds : tie.Need-loop-holds Inv-loop μ-loop
 loop-holds c = search needs
@@ -45,7 +45,7 @@ all-cases-spec =
     (tie.spec
     Inv-loop
     μ-loop
-    no-state-requires
+    no-writing-requires
     loop-holds
     next-case-requires
     returns
