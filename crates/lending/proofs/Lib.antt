@@ -1,2 +1,6 @@
 pub mod Lent
 pub mod LentNumber
+pub mod LentSlice
+pub mod LentTagged
+pub mod LentTaggedSlice
+pub mod LentTruth

@@ -5,7 +5,7 @@ use writing::Writing;
 use writing::Written;
 ghost use mathlib.Core.Path.{_≡_};
 ghost use Rattle.framing.specs.Frame.{openOutcome, openOctets, closeOutcome, closeOctets, finishOutcome, finishOctets};
-ghost use Rattle.giving.specs.Give.{Number, elementOutcome, elementOctets};
+ghost use Rattle.giving.specs.Give.{Number, Truth, Octets, Count, giveOutcome, giveOctets, elementOutcome, elementOctets};
 
 pub fn open(st: &mut Writing, buf: &mut [u8]) -> Written
     ensures { λ r. ⌜ (r ≡ openOutcome (now (st .entry)) (now (buf .entry)) .answer) × (now (st .exit) ≡ openOutcome (now (st .entry)) (now (buf .entry)) .state) × (now (buf .exit) ≡ openOctets (now (st .entry)) (now (buf .entry))) ⌝ }
@@ -31,10 +31,52 @@ pub fn finish(st: &mut Writing, buf: &mut [u8]) -> Written
     outcome.answer
 }
 
+pub fn give_number(st: &mut Writing, buf: &mut [u8], tag: u32, value: u32) -> Written
+    ensures { λ r. ⌜ (r ≡ giveOutcome (now (st .entry)) (now (buf .entry)) tag (Number value) .answer) × (now (st .exit) ≡ giveOutcome (now (st .entry)) (now (buf .entry)) tag (Number value) .state) × (now (buf .exit) ≡ giveOctets (now (st .entry)) (now (buf .entry)) tag (Number value)) ⌝ }
+{
+    let outcome = giving::give_number(*st, buf, tag, value);
+    *st = outcome.state;
+    outcome.answer
+}
+
+pub fn give_truth(st: &mut Writing, buf: &mut [u8], tag: u32, yes: bool) -> Written
+    ensures { λ r. ⌜ (r ≡ giveOutcome (now (st .entry)) (now (buf .entry)) tag (Truth yes) .answer) × (now (st .exit) ≡ giveOutcome (now (st .entry)) (now (buf .entry)) tag (Truth yes) .state) × (now (buf .exit) ≡ giveOctets (now (st .entry)) (now (buf .entry)) tag (Truth yes)) ⌝ }
+{
+    let outcome = giving::give_truth(*st, buf, tag, yes);
+    *st = outcome.state;
+    outcome.answer
+}
+
+// Octets without their length or their final 0.
+pub fn give_octets(st: &mut Writing, buf: &mut [u8], tag: u32, s: &[u8]) -> Written
+    ensures { λ r. ⌜ (r ≡ giveOutcome (now (st .entry)) (now (buf .entry)) tag (Octets (now (s .entry))) .answer) × (now (st .exit) ≡ giveOutcome (now (st .entry)) (now (buf .entry)) tag (Octets (now (s .entry))) .state) × (now (buf .exit) ≡ giveOctets (now (st .entry)) (now (buf .entry)) tag (Octets (now (s .entry)))) ⌝ }
+{
+    let outcome = giving::give_octets(*st, buf, tag, s);
+    *st = outcome.state;
+    outcome.answer
+}
+
+// The count of a list, whose elements follow one at a time.
+pub fn give_list(st: &mut Writing, buf: &mut [u8], tag: u32, count: u32) -> Written
+    ensures { λ r. ⌜ (r ≡ giveOutcome (now (st .entry)) (now (buf .entry)) tag (Count count) .answer) × (now (st .exit) ≡ giveOutcome (now (st .entry)) (now (buf .entry)) tag (Count count) .state) × (now (buf .exit) ≡ giveOctets (now (st .entry)) (now (buf .entry)) tag (Count count)) ⌝ }
+{
+    let outcome = giving::give_list(*st, buf, tag, count);
+    *st = outcome.state;
+    outcome.answer
+}
+
 pub fn add_number(st: &mut Writing, buf: &mut [u8], value: u32) -> Written
     ensures { λ r. ⌜ (r ≡ elementOutcome (now (st .entry)) (now (buf .entry)) (Number value) .answer) × (now (st .exit) ≡ elementOutcome (now (st .entry)) (now (buf .entry)) (Number value) .state) × (now (buf .exit) ≡ elementOctets (now (st .entry)) (now (buf .entry)) (Number value)) ⌝ }
 {
     let outcome = giving::add_number(*st, buf, value);
+    *st = outcome.state;
+    outcome.answer
+}
+
+pub fn add_octets(st: &mut Writing, buf: &mut [u8], s: &[u8]) -> Written
+    ensures { λ r. ⌜ (r ≡ elementOutcome (now (st .entry)) (now (buf .entry)) (Octets (now (s .entry))) .answer) × (now (st .exit) ≡ elementOutcome (now (st .entry)) (now (buf .entry)) (Octets (now (s .entry))) .state) × (now (buf .exit) ≡ elementOctets (now (st .entry)) (now (buf .entry)) (Octets (now (s .entry)))) ⌝ }
+{
+    let outcome = giving::add_octets(*st, buf, s);
     *st = outcome.state;
     outcome.answer
 }
