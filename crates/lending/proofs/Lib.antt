@@ -1,4 +1,5 @@
 pub mod Lent
+pub mod LentBegin
 pub mod LentNumber
 pub mod LentSlice
 pub mod LentTagged

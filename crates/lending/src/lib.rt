@@ -6,6 +6,25 @@ use writing::Written;
 ghost use mathlib.Core.Path.{_≡_};
 ghost use Rattle.framing.specs.Frame.{openOutcome, openOctets, closeOutcome, closeOctets, finishOutcome, finishOctets};
 ghost use Rattle.giving.specs.Give.{Number, Truth, Octets, Count, giveOutcome, giveOctets, elementOutcome, elementOctets};
+ghost use Rattle.begin.specs.Begin.{beginOutcome, beginOctets};
+
+// A begin that is refused leaves every octet and a state that no call takes up.
+pub fn begin(
+    st: &mut Writing,
+    htags: &[u32],
+    hflags: &[u32],
+    tags: &[u32],
+    flags: &[u32],
+    buf: &mut [u8],
+) -> Written
+    ensures { λ r. ⌜ (r ≡ beginOutcome (now (htags .entry)) (now (hflags .entry)) (now (tags .entry)) (now (flags .entry)) (now (buf .entry)) .answer)
+        × (now (st .exit) ≡ beginOutcome (now (htags .entry)) (now (hflags .entry)) (now (tags .entry)) (now (flags .entry)) (now (buf .entry)) .state)
+        × (now (buf .exit) ≡ beginOctets (now (htags .entry)) (now (hflags .entry)) (now (tags .entry)) (now (flags .entry)) (now (buf .entry))) ⌝ }
+{
+    let outcome = begin::begin(htags, hflags, tags, flags, buf);
+    *st = outcome.state;
+    outcome.answer
+}
 
 pub fn open(st: &mut Writing, buf: &mut [u8]) -> Written
     ensures { λ r. ⌜ (r ≡ openOutcome (now (st .entry)) (now (buf .entry)) .answer) × (now (st .exit) ≡ openOutcome (now (st .entry)) (now (buf .entry)) .state) × (now (buf .exit) ≡ openOctets (now (st .entry)) (now (buf .entry))) ⌝ }
