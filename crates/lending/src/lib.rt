@@ -8,7 +8,6 @@ ghost use Rattle.framing.specs.Frame.{openOutcome, openOctets, closeOutcome, cl
 ghost use Rattle.giving.specs.Give.{Number, Truth, Octets, Count, giveOutcome, giveOctets, elementOutcome, elementOctets};
 ghost use Rattle.begin.specs.Begin.{beginOutcome, beginOctets};
 
-// A begin that is refused leaves every octet and a state that no call takes up.
 pub fn begin(
     st: &mut Writing,
     htags: &[u32],
@@ -17,11 +16,11 @@ pub fn begin(
     flags: &[u32],
     buf: &mut [u8],
 ) -> Written
-    ensures { λ r. ⌜ (r ≡ beginOutcome (now (htags .entry)) (now (hflags .entry)) (now (tags .entry)) (now (flags .entry)) (now (buf .entry)) .answer)
-        × (now (st .exit) ≡ beginOutcome (now (htags .entry)) (now (hflags .entry)) (now (tags .entry)) (now (flags .entry)) (now (buf .entry)) .state)
+    ensures { λ r. ⌜ (r ≡ beginOutcome (now (st .entry)) (now (htags .entry)) (now (hflags .entry)) (now (tags .entry)) (now (flags .entry)) (now (buf .entry)) .answer)
+        × (now (st .exit) ≡ beginOutcome (now (st .entry)) (now (htags .entry)) (now (hflags .entry)) (now (tags .entry)) (now (flags .entry)) (now (buf .entry)) .state)
         × (now (buf .exit) ≡ beginOctets (now (htags .entry)) (now (hflags .entry)) (now (tags .entry)) (now (flags .entry)) (now (buf .entry))) ⌝ }
 {
-    let outcome = begin::begin(htags, hflags, tags, flags, buf);
+    let outcome = begin::begin(*st, htags, hflags, tags, flags, buf);
     *st = outcome.state;
     outcome.answer
 }
