@@ -12,7 +12,7 @@ use lib.ListN.{length, take, drop, getD, length-append, length-drop, drop-of-len
 use lib.Seq.{drop-cons, length-take-le}
 use borrow.Author.Tests.{le-leb, lt-leb, lt-ltb, le-ltb, eq-eqb, ne-eqb, leb-true, eqb-true, eqb-false, ltb-true, not-true, not-false}
 use Rattle.octets.specs.Cases.{split}
-use Rattle.octets.specs.Splice.{stored, stored-nil, length-stored}
+use Rattle.octets.specs.Splice.{stored, stored-nil, stored-join}
 use Rattle.octets.specs.Word.{leOf}
 use Rattle.answers.specs.Numbers.{manyColumns, unknownType, repeatedTag, outOfTurn, noRoom, mostColumns}
 use Rattle.answers.specs.declared.Verdict.{Verdict}
@@ -29,7 +29,6 @@ use Rattle.writing.specs.State.{settled, kept, doneWith}
 use Rattle.writing.specs.declared.Writing.{Writing}
 use Rattle.writing.specs.declared.Outcome.{Outcome}
 use Rattle.begin.specs.Begin.{rowsAt, tagsAt, startSize, beginAt, knownTo, beginNext, beginOutcome, columnsFrom, rowOctets, headOctets, startOctets, beginOctets}
-use Rattle.begin.specs.Join.{stored-join}
 
 -- ---- known
 

@@ -1,3 +1,2 @@
 pub mod Begin
-pub mod Join
 pub mod Cases

@@ -4,13 +4,12 @@ use Prim.Native.Nat.{ℕ, zero, suc, _+_, _-_, _≤_, _<_}
 use native.Mathlib.Omega.{arith}
 use mathlib.Core.Path.{_≡_, refl, ap, _∙_}
 use mathlib.Core.Bool.{Bool, true, false, cond, not}
-use mathlib.Core.List.{List, [], _∷_, _++_, append-assoc}
+use mathlib.Core.List.{List, [], _∷_, _++_}
 use lib.Dec.{ltb, eqb}
-use lib.ListN.{length, take, drop, length-append}
-use lib.Seq.{take-at, length-take-le, drop-append-add, drop-drop}
+use lib.ListN.{length, length-append}
 use borrow.Author.Tests.{lt-ltb, le-ltb, eq-eqb, ne-eqb}
 use Rattle.octets.specs.Cases.{split}
-use Rattle.octets.specs.Splice.{splice, stored, stored-in, length-splice}
+use Rattle.octets.specs.Splice.{stored, stored-join}
 use Rattle.octets.specs.Word.{leOf}
 use Rattle.answers.specs.Numbers.{outOfTurn, breaksForm}
 use Rattle.answers.specs.declared.Verdict.{Verdict}
@@ -211,18 +210,6 @@ pub ruleset binaries = (binary-none, binary-some, binary-over)
 
 -- ---- the ways of the stores
 
--- two stores one behind the other are one
-stored-join : (d a b : List ℕ) (i : ℕ) → i + length a + length b ≤ length d → stored (stored d i a) (i + length a) b ≡ stored d i (a ++ b)
-unfolding splice
-stored-join d a b i h =
-    let n : length (take i d ++ a) ≡ i + length a = simp (length-append, length-take-le i d (omega arith)) in
-    let t : take (i + length a) (splice d i a) ≡ take i d ++ a = take-at (take i d ++ a) (drop (i + length a) d) (i + length a) n in
-    let u : drop (i + length a + length b) (splice d i a) ≡ drop (i + length a + length b) d =
-    rw n at (drop-append-add (take i d ++ a) (drop (i + length a) d) (length b)) ∙ drop-drop (length b) (i + length a) d in
-    let s : i + length (a ++ b) ≡ i + length a + length b = simp length-append (omega arith) in
-    let m : length (splice d i a) ≡ length d = length-splice d i a (omega arith) in
-    rw (stored-in d i a (omega arith), stored-in (splice d i a) (i + length a) b (omega arith), stored-in d i (a ++ b) (omega arith)) (rw (t, u, s) (simp append-assoc))
-
 module _ (d : List ℕ) (i : ℕ) (b : Bool) (l : List ℕ) where
   pub put-yes : b ≡ true → l ≡ stored d i (leOf 1 1) → l ≡ stored d i (cond b 1 0 ∷ [])
   put-yes e q = rw e q
@@ -249,11 +236,11 @@ module _ (f : ℕ) (s : List ℕ) where
     pub put-binary : (k : ℕ) → f ≡ 5 → m ≡ stored d i (encodeNumber (length s)) → k ≡ length (encodeNumber (length s)) → l ≡ stored m (i + k) s → l ≡ stored d i (octetsFor (formAt f) (Octets s))
     put-binary k e p w q =
         let n = binary-length e in
-        rw (q, p, w, binary-octets e) (stored-join d (encodeNumber (length s)) s i (omega arith))
+        rw (q, p, w, binary-octets e) (stored-join d (encodeNumber (length s)) s i (i + length (encodeNumber (length s))) refl (omega arith))
 
     pub put-string : (f ≡ 5 → ⊥) → m ≡ stored d i s → l ≡ stored m (i + length s) (leOf 1 0) → l ≡ stored d i (octetsFor (formAt f) (Octets s))
     put-string e p q =
         let n = string-length e in
-        rw (q, p, string-octets e) (stored-join d s (0 ∷ []) i (omega arith))
+        rw (q, p, string-octets e) (stored-join d s (0 ∷ []) i (i + length s) refl (omega arith))
 
 pub ruleset strings = (put-binary, put-string)

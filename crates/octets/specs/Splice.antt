@@ -10,7 +10,7 @@ use native.Mathlib.Numerals.{add-one}
 use borrow.Author.Tests.{le-leb, lt-leb}
 use native.Mathlib.Omega.{arith}
 use lib.ListN.{length, take, drop, getD, set, length-append, length-take, length-drop, take-append-drop, List·getD-append, drop-of-length-le, replicate, length-replicate, getD-replicate}
-use lib.Seq.{length-take-le, take-suc, drop-cons, set-at, getD-append-add, getD-take, getD-drop, paste-suc, slice, length-slice, take-at, drop-at, take-all}
+use lib.Seq.{length-take-le, take-suc, drop-cons, set-at, getD-append-add, getD-take, getD-drop, paste-suc, slice, length-slice, take-at, drop-at, take-all, drop-append-add, drop-drop}
 use Rattle.octets.specs.Cases.{split}
 
 -- d with vs in place of what stands from i
@@ -96,6 +96,24 @@ moved-in d i e to h = rw (le-leb e (length d) h)
 pub moved-out : (d : List ℕ) (i e to : ℕ) → length d < e → moved d i e to ≡ d
 unfolding moved
 moved-out d i e to h = rw (lt-leb e (length d) h)
+
+-- ---- two stores one behind the other are one
+
+splice-join : (d a b : List ℕ) (i : ℕ) → i + length a ≤ length d → splice (splice d i a) (i + length a) b ≡ splice d i (a ++ b)
+unfolding splice
+splice-join d a b i h =
+    let n : length (take i d ++ a) ≡ i + length a = simp (length-append, length-take-le i d (omega arith)) in
+    let t : take (i + length a) (take i d ++ a ++ drop (i + length a) d) ≡ take i d ++ a = take-at (take i d ++ a) (drop (i + length a) d) (i + length a) n in
+    let u : drop (i + length a + length b) (take i d ++ a ++ drop (i + length a) d) ≡ drop (i + length a + length b) d =
+    rw n at (drop-append-add (take i d ++ a) (drop (i + length a) d) (length b)) ∙ drop-drop (length b) (i + length a) d in
+    let s : i + length (a ++ b) ≡ i + length a + length b = simp length-append (omega arith) in
+    rw (t, u, s) (simp append-assoc)
+
+pub stored-join : (d a b : List ℕ) (i j : ℕ) → j ≡ i + length a → j + length b ≤ length d → stored (stored d i a) j b ≡ stored d i (a ++ b)
+stored-join d a b i j e h =
+    let s : length (splice d i a) ≡ length d = length-splice d i a (omega arith) in
+    let n : length (a ++ b) ≡ length a + length b = length-append a b in
+    rw (stored-in d i a (omega arith), stored-in d i (a ++ b) (omega arith), stored-in (splice d i a) j b (omega arith), e) (splice-join d a b i (omega arith))
 
 -- ---- loops, from their invariants
 
