@@ -10,12 +10,12 @@ use Rattle.octets.specs.Word.{leOf}
 use Rattle.answers.specs.Numbers.{manyColumns, unknownType, repeatedTag, outOfTurn, noRoom, mostColumns}
 use Rattle.answers.specs.declared.Verdict.{Verdict}
 use Rattle.answers.specs.declared.Verdict.the-variants.{Clear as clear}
-use Rattle.answers.specs.Verdict.{_then_, need}
+use Rattle.answers.specs.Verdict.{_then_, need, kept}
 use Rattle.value.specs.Types.{isType}
 use Rattle.table.specs.Repeat.{memb}
 use Rattle.table.specs.Table.{Column}
 use Rattle.book.specs.Book.{metaSize, tablesOctets}
-use Rattle.writing.specs.State.{settled, kept}
+use Rattle.writing.specs.State.{settled}
 use Rattle.writing.specs.declared.Writing.{Writing}
 use Rattle.writing.specs.declared.Outcome.{Outcome}
 

@@ -15,11 +15,11 @@ use Rattle.serial.specs.Serial.{serialOf}
 use Rattle.answers.specs.Numbers.{outOfTurn, breaksRule, mostOctets}
 use Rattle.answers.specs.declared.Verdict.{Verdict}
 use Rattle.answers.specs.declared.Verdict.the-variants.{Clear as clear, Refused}
-use Rattle.answers.specs.Verdict.{refused, _then_, need, apart, unmet}
+use Rattle.answers.specs.Verdict.{refused, _then_, need, apart, unmet, kept}
 use Rattle.answers.specs.declared.Refusal.{Refusal}
 use Rattle.presence.specs.Presence.{room, isSet}
 use Rattle.entry.specs.Slots.{keyBit}
-use Rattle.writing.specs.State.{settled, kept, doneWith, columnsOf, tablesEnd, idleOf, withinOf, roomAt, Sane, idle-in, Within, within-in, Roomy, room-in}
+use Rattle.writing.specs.State.{settled, doneWith, columnsOf, tablesEnd, idleOf, withinOf, roomAt, Sane, idle-in, Within, within-in, Roomy, room-in}
 use Rattle.writing.specs.declared.Writing.{Writing}
 use Rattle.writing.specs.declared.Outcome.{Outcome}
 use Rattle.framing.specs.Frame.{openSize, openAt, openNext, openOutcome, openOctets, keysFrom, closeAt, closeNext, closeOutcome, closeOctets, finishAt, finishNext, sealedTo, finishOutcome, finishOctets}

@@ -10,10 +10,10 @@ use Rattle.serial.specs.Serial.{serialOf}
 use Rattle.answers.specs.Numbers.{outOfTurn, breaksRule}
 use Rattle.answers.specs.declared.Verdict.{Verdict}
 use Rattle.answers.specs.declared.Verdict.the-variants.{Clear as clear}
-use Rattle.answers.specs.Verdict.{_then_, need}
+use Rattle.answers.specs.Verdict.{_then_, need, kept}
 use Rattle.presence.specs.Presence.{room, isSet}
 use Rattle.entry.specs.Slots.{keyBit}
-use Rattle.writing.specs.State.{settled, kept, columnsOf, idleOf, withinOf, roomAt}
+use Rattle.writing.specs.State.{settled, columnsOf, idleOf, withinOf, roomAt}
 use Rattle.writing.specs.declared.Writing.{Writing}
 use Rattle.writing.specs.declared.Outcome.{Outcome}
 
@@ -50,6 +50,20 @@ openOctets st d = kept (openAt st (length d)) d (stored d (st .written) (replica
 
 -- ---- close: the size is filled in
 
+-- the state between records, in a stage
+abbrev pub betweenOf : Writing → ℕ → Writing
+betweenOf st s = record {
+  written = st .written;
+  header = st .header;
+  address = st .address;
+  opened = st .opened;
+  start = 0;
+  next = 0;
+  left = 0;
+  form = 0;
+  stage = s;
+}
+
 -- each key of the m columns from column i on has its bit; the first column's flags field stands at flags, the presence octets are the front of p
 unfoldable pub keysFrom : List ℕ → ℕ → List ℕ → ℕ → ℕ → Bool
 keysFrom d flags p zero i = true
@@ -62,17 +76,7 @@ closeAt st d =
     then need (cond (eqb (st .opened) 1) true (keysFrom d (28 + 8 * st .header) (drop (st .start + 4) d) (st .address) 0)) breaksRule 0
 
 abbrev pub closeNext : Writing → Writing
-closeNext st = record {
-  written = st .written;
-  header = st .header;
-  address = st .address;
-  opened = st .opened;
-  start = 0;
-  next = 0;
-  left = 0;
-  form = 0;
-  stage = st .stage;
-}
+closeNext st = betweenOf st (st .stage)
 
 unfoldable pub closeOutcome : Writing → List ℕ → Outcome
 closeOutcome st d = settled (closeAt st d) st (closeNext st)
@@ -89,17 +93,7 @@ finishAt st n =
     then need (not (eqb (st .opened) 1)) breaksRule 0
 
 abbrev pub finishNext : Writing → Writing
-finishNext st = record {
-  written = st .written;
-  header = st .header;
-  address = st .address;
-  opened = st .opened;
-  start = 0;
-  next = 0;
-  left = 0;
-  form = 0;
-  stage = 1;
-}
+finishNext st = betweenOf st 1
 
 unfoldable pub finishOutcome : Writing → List ℕ → Outcome
 finishOutcome st d = settled (finishAt st (length d)) st (finishNext st)

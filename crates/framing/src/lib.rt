@@ -9,7 +9,7 @@ use writing::Writing;
 ghost use mathlib.Core.Path.{_≡_};
 ghost use Prim.Native.Nat.{_+_, _*_, _≤_};
 ghost use lib.ListN.{length};
-ghost use Rattle.framing.specs.Frame.{openSize, openAt, openNext, openOutcome, openOctets, keysFrom, closeAt, closeNext, closeOutcome, closeOctets, finishAt, finishNext, sealedTo, finishOutcome, finishOctets};
+ghost use Rattle.framing.specs.Frame.{openSize, openAt, openNext, openOutcome, openOctets, keysFrom, betweenOf, closeAt, closeOutcome, closeOctets, finishAt, sealedTo, finishOutcome, finishOctets};
 
 // ---- open
 
@@ -102,8 +102,9 @@ fn judge_close(st: Writing, buf: &[u8]) -> Verdict
     refuse(answers::OUT_OF_TURN, 0)
 }
 
-fn closed(st: Writing) -> Writing
-    ensures { λ r. ⌜ r ≡ closeNext st ⌝ }
+// The state between records, in a stage.
+fn between(st: Writing, stage: u8) -> Writing
+    ensures { λ r. ⌜ r ≡ betweenOf st stage ⌝ }
 {
     Writing {
         written: st.written,
@@ -114,7 +115,7 @@ fn closed(st: Writing) -> Writing
         next: 0,
         left: 0,
         form: 0,
-        stage: st.stage,
+        stage,
     }
 }
 
@@ -127,7 +128,7 @@ pub fn close(st: Writing, buf: &mut [u8]) -> Outcome
     };
     let at = st.start;
     put_word(buf, at, 4, (st.written - at) as u64);
-    let next = closed(st);
+    let next = between(st, st.stage);
     writing::settle(v, st, next)
 }
 
@@ -148,22 +149,6 @@ fn judge_finish(st: Writing, n: usize) -> Verdict
     refuse(answers::OUT_OF_TURN, 0)
 }
 
-fn finished(st: Writing) -> Writing
-    ensures { λ r. ⌜ r ≡ finishNext st ⌝ }
-{
-    Writing {
-        written: st.written,
-        header: st.header,
-        address: st.address,
-        opened: st.opened,
-        start: 0,
-        next: 0,
-        left: 0,
-        form: 0,
-        stage: 1,
-    }
-}
-
 // The count and the serial of a book that is written up to `end`.
 fn seal(buf: &mut [u8], end: usize, count: u64)
     requires { ⌜ (12 ≤ end) × (end ≤ length (now buf)) ⌝ }
@@ -182,6 +167,6 @@ pub fn finish(st: Writing, buf: &mut [u8]) -> Outcome
         return writing::settle(v, st, st);
     };
     seal(buf, st.written, (st.opened - 1) as u64);
-    let next = finished(st);
+    let next = between(st, 1);
     writing::settle(v, st, next)
 }

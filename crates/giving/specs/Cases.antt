@@ -16,7 +16,7 @@ use Rattle.answers.specs.Numbers.{outOfTurn, breaksForm, mostOctets}
 use Rattle.answers.specs.declared.Refusal.{Refusal}
 use Rattle.answers.specs.declared.Verdict.{Verdict}
 use Rattle.answers.specs.declared.Verdict.the-variants.{Clear as clear, Refused}
-use Rattle.answers.specs.Verdict.{refused, need, apart, unmet}
+use Rattle.answers.specs.Verdict.{refused, need, apart, unmet, kept}
 use Rattle.presence.specs.Presence.{setBit}
 use Rattle.value.specs.Types.{numberOf, formAt, formOf}
 use Rattle.table.specs.declared.Found.{Found}
@@ -24,7 +24,7 @@ use Rattle.table.specs.declared.Found.the-variants.{At, Nothing}
 use Rattle.writing.specs.declared.Writing.{Writing}
 use Rattle.writing.specs.declared.Outcome.{Outcome}
 use Rattle.writing.specs.declared.Written.the-variants as written
-use Rattle.writing.specs.State.{settled, kept, doneWith, columnsOf, withinOf, roomAt, Roomy, room-in, Within, within-in}
+use Rattle.writing.specs.State.{settled, doneWith, columnsOf, withinOf, roomAt, Roomy, room-in, Within, within-in}
 use Rattle.writing.specs.Column.{rowFrom, columnFor}
 use Rattle.giving.specs.Give.{Given, Octets, formed, octetsFor, isFound, columnOf, leftOf, formLeft, givenTo, marked, giveAt, giveOutcome, giveOctets, elementForm, dueForm, elementAt, addedTo, elementOutcome, elementOctets}
 use Rattle.giving.specs.Size.{sizeOf, sizedAt, placedAt, addedAt, sized, octets-long}

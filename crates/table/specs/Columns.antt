@@ -13,7 +13,7 @@ use Rattle.octets.specs.Word.{wordOf}
 use Rattle.answers.specs.Numbers.{cutShort, unknownType, repeatedTag, manyColumns, mostColumns}
 use Rattle.answers.specs.declared.Verdict.{Verdict}
 use Rattle.answers.specs.declared.Verdict.the-variants.{Clear as clear, Refused}
-use Rattle.answers.specs.Verdict.{refused, _then_, need, apart, unmet, no-clear}
+use Rattle.answers.specs.Verdict.{refused, _then_, need, apart, unmet, no-clear, then-assoc}
 use Rattle.value.specs.Types.{numberOf, isType}
 use Rattle.table.specs.Repeat.{memb, repeatAt, repeat-is, repeatOf, foundAt}
 use Rattle.table.specs.Table.{Column, codeOf, rowAt, columnsAt, tableAt, columnsOf, tableOf}
@@ -83,10 +83,6 @@ judgedTo (Refused r) t = noTable (Refused r)
 
 unfoldable pub settled : ℕ → Table → Table
 settled at t = judgedTo (foundAt 8 at (repeatOf (take (t .columns .count) (t .columns .tags))) then t .verdict) t
-
-then-assoc : (u v w : Verdict) → (u then (v then w)) ≡ ((u then v) then w)
-then-assoc clear v w = refl
-then-assoc (Refused r) v w = refl
 
 pub agree : (n : ℕ) (seen : List ℕ) (at : ℕ) (xs : List ℕ)
     → columnsAt n seen at xs ≡ (repeatAt 8 seen at (tagsOf (columnsOf (readTo n at xs) xs)) then plainAt n at xs)

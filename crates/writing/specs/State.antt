@@ -31,11 +31,6 @@ abbrev pub settled : Verdict → Writing → Writing → Outcome
 settled clear before behind = doneWith behind
 settled (Refused r) before behind = refusedWith r before
 
--- and every octet
-abbrev pub kept : Verdict → List ℕ → List ℕ → List ℕ
-kept clear before behind = behind
-kept (Refused r) before behind = before
-
 -- ---- the states
 
 -- where the tables end
