@@ -26,7 +26,8 @@ use Rattle.writing.specs.declared.Outcome.{Outcome}
 use Rattle.writing.specs.declared.Written.the-variants as written
 use Rattle.writing.specs.State.{settled, doneWith, columnsOf, withinOf, roomAt, Roomy, room-in, Within, within-in}
 use Rattle.writing.specs.Column.{rowFrom, columnFor}
-use Rattle.giving.specs.Give.{Given, Octets, formed, octetsFor, isFound, columnOf, leftOf, formLeft, givenTo, marked, giveAt, giveOutcome, giveOctets, elementForm, dueForm, elementAt, addedTo, elementOutcome, elementOctets}
+use Rattle.table.specs.Found.{isFound, columnOf}
+use Rattle.giving.specs.Give.{Given, Octets, formed, octetsFor, leftOf, formLeft, givenTo, marked, giveAt, giveOutcome, giveOctets, elementForm, dueForm, elementAt, addedTo, elementOutcome, elementOctets}
 use Rattle.giving.specs.Size.{sizeOf, sizedAt, placedAt, addedAt, sized, octets-long}
 
 -- ---- what a clear verdict stands on

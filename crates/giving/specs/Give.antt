@@ -8,18 +8,17 @@ use lib.ListN.{length, take, drop}
 use Rattle.octets.specs.Splice.{stored}
 use Rattle.answers.specs.Numbers.{outOfTurn, breaksForm}
 use Rattle.answers.specs.declared.Verdict.{Verdict}
-use Rattle.answers.specs.Verdict.{_then_, need}
+use Rattle.answers.specs.Verdict.{_then_, need, kept}
 use Rattle.answers.specs.Walk.{endsAt}
 use Rattle.presence.specs.Presence.{setBit}
 use Rattle.whole.specs.Number.{encodeNumber}
 use Rattle.text.specs.Narrow.{narrowOf}
 use Rattle.text.specs.Utf8.{textOf}
 use Rattle.value.specs.Types.{Kind, nothing, number, truth, narrow, text, binary, Form, one, many, unknown, kindNumber, numberOf, formAt, formOf}
-use Rattle.table.specs.declared.Found.{Found}
-use Rattle.table.specs.declared.Found.the-variants.{At, Nothing}
+use Rattle.table.specs.Found.{isFound, columnOf}
 use Rattle.writing.specs.declared.Writing.{Writing}
 use Rattle.writing.specs.declared.Outcome.{Outcome}
-use Rattle.writing.specs.State.{settled, kept, withinOf, roomAt}
+use Rattle.writing.specs.State.{settled, withinOf, roomAt}
 use Rattle.writing.specs.Column.{columnFor}
 
 -- what is handed over, by kind; octets without length or final 00
@@ -70,14 +69,6 @@ octetsFor f (Octets s) = cond (isOne binary f) (encodeNumber (length s) ++ s) (s
 octetsFor f (Count n) = encodeNumber n
 
 -- ---- a value
-
-abbrev pub isFound : Found → Bool
-isFound (At i) = true
-isFound Nothing = false
-
-abbrev pub columnOf : Found → ℕ
-columnOf (At i) = i
-columnOf Nothing = 0
 
 -- the column, then the form, then the room
 unfoldable pub giveAt : Writing → List ℕ → ℕ → Given → Verdict

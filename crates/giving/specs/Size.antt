@@ -22,7 +22,8 @@ use Rattle.value.specs.Types.{Kind, nothing, number, truth, narrow, text, binar
 use Rattle.writing.specs.declared.Writing.{Writing}
 use Rattle.writing.specs.State.{withinOf, roomAt}
 use Rattle.writing.specs.Column.{columnFor}
-use Rattle.giving.specs.Give.{Given, Number, Truth, Octets, Count, isOne, octetsOf, octetsFormed, formed, octetsFor, elementForm, isFound}
+use Rattle.table.specs.Found.{isFound}
+use Rattle.giving.specs.Give.{Given, Number, Truth, Octets, Count, isOne, octetsOf, octetsFormed, formed, octetsFor, elementForm}
 
 abbrev pub sizeOf : Form → Given → ℕ
 sizeOf f v = cond (formed f v) (length (octetsFor f v)) 0

@@ -27,7 +27,8 @@ ghost use lib.ListN.{length};
 ghost use Rattle.answers.specs.Verdict.{kept};
 ghost use Rattle.writing.specs.State.{settled};
 ghost use Rattle.writing.specs.Column.{columnFor};
-ghost use Rattle.giving.specs.Give.{Number, Truth, Octets, Count, columnOf, givenTo, marked, giveOutcome, giveOctets, addedTo, elementOutcome, elementOctets};
+ghost use Rattle.table.specs.Found.{columnOf};
+ghost use Rattle.giving.specs.Give.{Number, Truth, Octets, Count, givenTo, marked, giveOutcome, giveOctets, addedTo, elementOutcome, elementOctets};
 ghost use Rattle.giving.specs.Size.{sizedAt, placedAt, addedAt};
 
 // A value of `size` octets, 0 where it breaks its form, behind the written octets in a buffer of n.

@@ -7,7 +7,7 @@ use native.Mathlib.Nat.{zero-div, zero-mod, one-mul, div-eq-of-lt, mod-one, mod-
 use native.Mathlib.Numerals.{add-one, one-add}
 use native.Mathlib.Decide.{decLt, ℕ-discrete}
 use native.Mathlib.Omega.{arith}
-use lib.Bits.{bitAnd, and-mask, bitOr, or-shr, or-mod, or-zero-r, shifted-even}
+use lib.Bits.{bitAnd, and-mask, bitOr, bitXor, or-shr, or-mod, or-zero-r, shifted-even}
 use lib.Pow.{pow-lt, pow-add, shl-shr, mod-pow-add, pow-pos, ones-split, ones-lt, high, field, mod-mod-pow}
 use borrow.Author.Tests.{eqb-true}
 use lib.Seq.{getD-set-same, getD-set-other, set-out, ext-getD}
@@ -33,6 +33,10 @@ isSet xs i = eqb (bitAt xs i) 1
 -- the octets with bit i set; past the end the octets themselves
 unfoldable pub setBit : List ℕ → ℕ → List ℕ
 setBit xs i = set xs (i / 8) (bitOr (octetAt xs (i / 8)) (2 ^ (7 - i % 8)))
+
+-- the octets with bit i cleared; past the end the octets themselves
+unfoldable pub clearBit : List ℕ → ℕ → List ℕ
+clearBit xs i = set xs (i / 8) (bitXor (octetAt xs (i / 8)) (bitAt xs i * 2 ^ (7 - i % 8)))
 
 -- of n columns, the bits of the last octet that stand for none are 0
 unfoldable pub spareClear : List ℕ → ℕ → Bool

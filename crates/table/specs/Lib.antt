@@ -1,3 +1,4 @@
+pub mod Found
 pub mod First
 pub mod Repeat
 pub mod Table

@@ -1,0 +1,1 @@
+// Parts of a book replaced in a lent buffer.
