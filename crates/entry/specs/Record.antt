@@ -255,7 +255,7 @@ record-sound ss at xs o e =
 
 -- ---- what was written is known by its octets
 
-unlike : {X : Type 0} → false ≡ true → X
+pub unlike : {X : Type 0} → false ≡ true → X
 unlike e = let z : _≡_ {A = ℕ} 0 1 = cc in absurd (omega arith)
 
 entries-one : (ss : List Slot) (es fs : Row) (i : ℕ) (p : List ℕ) → SoundRow ss es → SoundRow ss fs → Bits p i es → Bits p i fs → valuesOf es ≡ valuesOf fs → es ≡ fs
