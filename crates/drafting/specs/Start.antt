@@ -29,7 +29,7 @@ use Rattle.entry.specs.Slots.{keyBit}
 use Rattle.book.specs.Book.{slotsOf, rowSlots, metaSize, tablesOctets, tables-octets}
 use Rattle.book.specs.Unused.{plainly, tables-long}
 use Rattle.writing.specs.declared.Writing.{Writing}
-use Rattle.writing.specs.State.{columnsOf}
+use Rattle.writing.specs.State.{columnsOf, both-true}
 use Rattle.writing.specs.Column.{rowFrom, tableFor}
 use Rattle.framing.specs.Frame.{keysFrom}
 use Rattle.begin.specs.Begin.{rowsAt, tagsAt, startSize, beginAt, columnsFrom, startOctets}
@@ -158,3 +158,137 @@ rows-from (suc n) d base t i seen (c ∷ cs) rest e h l =
     let p : suc (length cs) - suc n ≡ length cs - n = omega arith in
     let q : i + suc n ≡ i + 1 + n = omega arith in
     rw (p, q) (rows-from n d base t (i + 1) (c .tag ∷ seen) cs rest (row-behind d base i c cs rest e) (h .2) (omega arith))
+
+module _ (d : List ℕ) (hs cs : List Column) (rest : List ℕ) (e : d ≡ startOctets hs cs ++ rest) where
+  first-rows : drop 20 d ≡ columnsOctets hs ++ (tableOctets cs ++ rest)
+  unfolding startOctets tablesOctets tableOctets
+  first-rows = rw e (append-assoc (columnsOctets hs) (tableOctets cs) rest)
+
+  second-rows : drop (24 + 8 * length hs) d ≡ columnsOctets cs ++ rest
+  unfolding tableOctets
+  second-rows =
+      let p : 20 + 8 * length hs + 4 ≡ 24 + 8 * length hs = omega arith in
+      rw (← p, ← drop-drop 4 (20 + 8 * length hs) d, ← drop-drop (8 * length hs) 20 d, first-rows, drop-at (columnsOctets hs) (tableOctets cs ++ rest) (8 * length hs) (columns-length hs))
+
+pub table-for : (st : Writing) (d : List ℕ) (hs cs : List Column) (rest : List ℕ) (t : ℕ) → d ≡ startOctets hs cs ++ rest → SoundTable hs → SoundTable cs
+    → st .header ≡ length hs → st .address ≡ length cs → st .next ≤ columnsOf st (st .opened)
+    → tableFor st d t ≡ seekTag t (drop (st .next) (tagsOf (openColumns hs cs (st .opened)))) (st .next)
+table-for st d hs cs rest t e h k p q l = rw (p, q) (go (eqb (st .opened) 1) (rw (p, q) at l))
+  where
+    go : (b : Bool) → st .next ≤ cond b (length hs) (length cs)
+        → cond b (rowFrom d 20 t (length hs - st .next) (st .next)) (rowFrom d (24 + 8 * length hs) t (length cs - st .next) (st .next)) ≡ seekTag t (drop (st .next) (tagsOf (cond b hs cs))) (st .next)
+    go true l =
+        let z : 0 + st .next ≡ st .next = omega arith in
+        rw z at (rows-from (st .next) d 20 t 0 [] hs (tableOctets cs ++ rest) (first-rows d hs cs rest e) (h .1) l)
+    go false l =
+        let z : 0 + st .next ≡ st .next = omega arith in
+        let y : 24 + 8 * length hs + 8 * 0 ≡ 24 + 8 * length hs = omega arith in
+        rw z at (rows-from (st .next) d (24 + 8 * length hs) t 0 [] cs rest (rw y (second-rows d hs cs rest e)) (k .1) l)
+
+-- ---- a column by its tag
+
+seek-in : (t : ℕ) (xs : List ℕ) (i c : ℕ) → seekTag t xs i ≡ At c → (i ≤ c) × (c < i + length xs) × (getD xs (c - i) 0 ≡ t)
+unfolding seekTag
+seek-in t [] i c e = absurd (let z : _≡_ {A = ℕ} 0 1 = cc in omega arith)
+seek-in t (x ∷ xs) i c e =
+    taken (eqb x t) _ _ _ e
+    (λ u q. let s : i ≡ c = cc in
+    let z : c - i ≡ 0 = omega arith in
+    (omega arith, omega arith, rw z (eqb-true x t u)))
+    (λ u q. let r = seek-in t xs (i + 1) c q in
+    let a = r .0 in
+    let b = r .1 in
+    let z : c - i ≡ suc (c - (i + 1)) = omega arith in
+    (omega arith, omega arith, rw z (r .2)))
+
+pub seek-found : (t : ℕ) (ts : List ℕ) (i c : ℕ) → seekTag t (drop i ts) i ≡ At c → (i ≤ c) × (c < length ts) × (getD ts c 0 ≡ t)
+seek-found t ts i c e =
+    let r = seek-in t (drop i ts) i c e in
+    let a = r .0 in
+    let b = r .1 in
+    let l : length (drop i ts) ≡ length ts - i = length-drop i ts in
+    let s : i + (c - i) ≡ c = omega arith in
+    (a, omega arith, rw (getD-drop i ts (c - i) 0, s) at (r .2))
+
+-- a tag seen before stands in no column
+seen-apart : (x : ℕ) (seen : List ℕ) (cs : List Column) → SoundColumns seen cs → memb x seen ≡ true → (j : ℕ) → j < length cs → x ≡ getD (tagsOf cs) j 0 → ⊥
+seen-apart x seen [] h m j l e = absurd (omega arith)
+seen-apart x seen (c ∷ cs) h m zero l e = unlike (sym (h .1) ∙ rw e at m)
+seen-apart x seen (c ∷ cs) h m (suc j) l e = seen-apart x (c .tag ∷ seen) cs (h .2) (more (eqb x (c .tag))) j (omega arith) e
+  where
+    more : (b : Bool) → cond b true (memb x seen) ≡ true
+    more true = refl
+    more false = m
+
+seek-first : (seen : List ℕ) (cs : List Column) → SoundColumns seen cs → (i j : ℕ) → j < length cs → seekTag (getD (tagsOf cs) j 0) (tagsOf cs) i ≡ At (i + j)
+unfolding seekTag
+seek-first seen [] h i j l = absurd (omega arith)
+seek-first seen (c ∷ cs) h i zero l =
+    let z : i + 0 ≡ i = omega arith in
+    rw (eq-eqb (c .tag) (c .tag) refl, z)
+seek-first seen (c ∷ cs) h i (suc j) l =
+    let z : i + suc j ≡ i + 1 + j = omega arith in
+    let m : memb (c .tag) (c .tag ∷ seen) ≡ true = rw (eq-eqb (c .tag) (c .tag) refl) in
+    rw (ne-eqb (c .tag) (getD (tagsOf cs) j 0) (seen-apart (c .tag) (c .tag ∷ seen) cs (h .2) m j (omega arith)), z) (seek-first (c .tag ∷ seen) cs (h .2) (i + 1) j (omega arith))
+
+seek-from : (n : ℕ) (seen : List ℕ) (cs : List Column) → SoundColumns seen cs → (i c : ℕ) → n ≤ c → c < length cs → seekTag (getD (tagsOf cs) c 0) (drop n (tagsOf cs)) (i + n) ≡ At (i + c)
+seek-from zero seen cs h i c l k =
+    let z : i + 0 ≡ i = omega arith in
+    rw z (seek-first seen cs h i c k)
+seek-from (suc n) seen [] h i c l k = absurd (omega arith)
+seek-from (suc n) seen (x ∷ cs) h i zero l k = absurd (omega arith)
+seek-from (suc n) seen (x ∷ cs) h i (suc c) l k =
+    let p : i + suc n ≡ i + 1 + n = omega arith in
+    let q : i + suc c ≡ i + 1 + c = omega arith in
+    rw (p, q) (seek-from n (x .tag ∷ seen) cs (h .2) (i + 1) c (omega arith) (omega arith))
+
+pub seek-there : (cs : List Column) → SoundTable cs → (i c : ℕ) → i ≤ c → c < length cs → seekTag (getD (tagsOf cs) c 0) (drop i (tagsOf cs)) i ≡ At c
+seek-there cs h i c l k =
+    let p : 0 + i ≡ i = omega arith in
+    let q : 0 + c ≡ c = omega arith in
+    rw (p, q) at (seek-from i [] cs (h .1) 0 c l k)
+
+-- ---- the keys
+
+key-same : (c : Column) → keyBit (c .flags) ≡ isKey c
+unfolding keyBit
+key-same c = refl
+
+module _ (d : List ℕ) (base : ℕ) (rest p : List ℕ) (at : ℕ) where
+  keys-held : (seen : List ℕ) (cs : List Column) (i : ℕ) → drop (base + 8 * i) d ≡ columnsOctets cs ++ rest → SoundColumns seen cs
+      → keysFrom d (base + 4) p (length cs) i ≡ true → keysAt (rowSlots cs) i p at ≡ clear
+  unfolding keysFrom keysAt
+  keys-held seen [] i e h k = refl
+  keys-held seen (c ∷ cs) i e h k =
+      let w : keyBit (wordOf 4 (drop (base + 4 + 8 * i) d)) ≡ isKey c = ap keyBit (row-flags d base i c cs rest e (h .0 .1)) ∙ key-same c in
+      let b = both-true (cond (isKey c) (isSet p i) true) _ (rw w at k) in
+      rw (b .0) (rw add-one at (keys-held (c .tag ∷ seen) cs (i + 1) (row-behind d base i c cs rest e) (h .2) (b .1)))
+
+  keys-due : (seen : List ℕ) (cs : List Column) (i : ℕ) → drop (base + 8 * i) d ≡ columnsOctets cs ++ rest → SoundColumns seen cs
+      → keysAt (rowSlots cs) i p at ≡ clear → keysFrom d (base + 4) p (length cs) i ≡ true
+  unfolding keysFrom keysAt
+  keys-due seen [] i e h k = refl
+  keys-due seen (c ∷ cs) i e h k =
+      let w : keyBit (wordOf 4 (drop (base + 4 + 8 * i) d)) ≡ isKey c = ap keyBit (row-flags d base i c cs rest e (h .0 .1)) ∙ key-same c in
+      let b = apart (need (cond (isKey c) (isSet p i) true) keyAbsent (at + i / 8)) _ k in
+      rw (w, unmet (cond (isKey c) (isSet p i) true) keyAbsent (at + i / 8) (b .0)) (keys-due (c .tag ∷ seen) cs (i + 1) (row-behind d base i c cs rest e) (h .2) (rw add-one (b .1)))
+
+module _ (d : List ℕ) (hs cs : List Column) (rest p : List ℕ) (at : ℕ) (e : d ≡ startOctets hs cs ++ rest) (h : SoundTable hs) (k : SoundTable cs) where
+  pub keys-written : keysFrom d (28 + 8 * length hs) p (length cs) 0 ≡ true → keysAt (rowSlots cs) 0 p at ≡ clear
+  keys-written q =
+      let y : 24 + 8 * length hs + 8 * 0 ≡ 24 + 8 * length hs = omega arith in
+      let z : 28 + 8 * length hs ≡ 24 + 8 * length hs + 4 = omega arith in
+      keys-held d (24 + 8 * length hs) rest p at [] cs 0 (rw y (second-rows d hs cs rest e)) (k .1) (rw z at q)
+
+  pub keys-asked : keysAt (rowSlots cs) 0 p at ≡ clear → keysFrom d (28 + 8 * length hs) p (length cs) 0 ≡ true
+  keys-asked q =
+      let y : 24 + 8 * length hs + 8 * 0 ≡ 24 + 8 * length hs = omega arith in
+      let z : 28 + 8 * length hs ≡ 24 + 8 * length hs + 4 = omega arith in
+      rw z (keys-due d (24 + 8 * length hs) rest p at [] cs 0 (rw y (second-rows d hs cs rest e)) (k .1) q)
+
+-- ---- the form of a column is that of its tag
+
+pub slot-form : (b : Bool) (cs : List Column) (c : ℕ) (s : Slot) → c < length cs → getD (slotsOf b cs) c s .form ≡ formOf (getD (tagsOf cs) c 0 % 65536)
+slot-form b [] c s h = absurd (omega arith)
+slot-form b (x ∷ cs) zero s h = refl
+slot-form b (x ∷ cs) (suc c) s h = slot-form b cs c s (omega arith)
