@@ -1,32 +1,30 @@
 -- The tables as begin lays them down: sound where begin takes them, read back from the written octets, and every sound pair of tables is taken.
 use Prim.Native.Nat.{ℕ, zero, suc, _+_, _-_, _*_, _/_, _%_, _^_, _≤_, _<_}
 use native.Mathlib.Omega.{arith}
-use native.Mathlib.Nat.{add-zero}
 use native.Mathlib.Numerals.{add-one}
-use mathlib.Core.Path.{_≡_, refl, sym, ap, ap₂, _∙_}
+use mathlib.Core.Path.{_≡_, refl, sym, ap, _∙_}
 use mathlib.Core.Bool.{Bool, true, false, cond, not}
 use mathlib.Core.List.{List, [], _∷_, _++_, append-assoc}
 use lib.Dec.{eqb, leb}
-use lib.ListN.{length, drop, getD, length-append, length-drop}
+use lib.ListN.{length, drop, getD, length-drop}
 use lib.Seq.{drop-at, drop-drop, getD-drop}
-use borrow.Author.Tests.{le-leb, eq-eqb, ne-eqb, eqb-true, eqb-false, not-true}
+use borrow.Author.Tests.{le-leb, eq-eqb, ne-eqb, eqb-true, not-true}
 use Rattle.octets.specs.Cases.{taken}
 use Rattle.octets.specs.Octets.{Octets, octets-append}
-use Rattle.octets.specs.Word.{leOf, wordOf, octets-leOf, length-word, drop-word, word-back}
-use Rattle.answers.specs.Numbers.{manyColumns, unknownType, repeatedTag, outOfTurn, noRoom, keyAbsent, mostColumns}
-use Rattle.answers.specs.declared.Verdict.{Verdict}
+use Rattle.octets.specs.Word.{leOf, wordOf, octets-leOf, word-back}
+use Rattle.answers.specs.Numbers.{manyColumns, unknownType, repeatedTag, keyAbsent, mostColumns}
 use Rattle.answers.specs.declared.Verdict.the-variants.{Clear as clear}
-use Rattle.answers.specs.Verdict.{_then_, need, apart, unmet}
+use Rattle.answers.specs.Verdict.{need, apart, unmet}
 use Rattle.presence.specs.Presence.{isSet}
 use Rattle.value.specs.Types.{formOf, isType}
 use Rattle.table.specs.declared.Found.{Found}
 use Rattle.table.specs.declared.Found.the-variants.{At, Nothing}
 use Rattle.table.specs.Repeat.{memb}
-use Rattle.table.specs.Table.{Column, isKey, columnsOctets, tableOctets, SoundColumns, SoundTable, columns-length, table-length}
-use Rattle.table.specs.Columns.{tagsOf}
+use Rattle.table.specs.Table.{Column, isKey, columnsOctets, tableOctets, SoundColumns, SoundTable, columns-length}
+use Rattle.table.specs.Columns.{tagsOf, tags-long}
 use Rattle.entry.specs.Record.{Slot, keysAt, unlike}
 use Rattle.entry.specs.Slots.{keyBit}
-use Rattle.book.specs.Book.{slotsOf, rowSlots, metaSize, tablesOctets, tables-octets}
+use Rattle.book.specs.Book.{slotsOf, rowSlots, tablesOctets, tables-octets}
 use Rattle.book.specs.Unused.{plainly, tables-long}
 use Rattle.writing.specs.declared.Writing.{Writing}
 use Rattle.writing.specs.State.{columnsOf, both-true}
@@ -95,10 +93,6 @@ from-sound base ts fs h l e =
 
 -- ---- sound tables are taken
 
-pub tags-long : (cs : List Column) → length (tagsOf cs) ≡ length cs
-tags-long [] = refl
-tags-long (c ∷ cs) = ap suc (tags-long cs)
-
 pub flags-long : (cs : List Column) → length (flagsOf cs) ≡ length cs
 flags-long [] = refl
 flags-long (c ∷ cs) = ap suc (flags-long cs)
@@ -129,10 +123,11 @@ module _ (d : List ℕ) (base i : ℕ) (c : Column) (cs : List Column) (rest : L
   row-tag : c .tag < 2 ^ 32 → wordOf 4 (drop (base + 8 * i) d) ≡ c .tag
   row-tag h = rw e (word-back 4 (c .tag) h (leOf 4 (c .flags) ++ (columnsOctets cs ++ rest)))
 
-  row-flags : c .flags < 2 ^ 32 → wordOf 4 (drop (base + 4 + 8 * i) d) ≡ c .flags
-  row-flags h =
+  row-key : c .flags < 2 ^ 32 → keyBit (wordOf 4 (drop (base + 4 + 8 * i) d)) ≡ isKey c
+  unfolding keyBit
+  row-key h =
       let p : base + 8 * i + 4 ≡ base + 4 + 8 * i = omega arith in
-      rw (← p, ← drop-drop 4 (base + 8 * i) d, e) (word-back 4 (c .flags) h (columnsOctets cs ++ rest))
+      rw (← p, ← drop-drop 4 (base + 8 * i) d, e, word-back 4 (c .flags) h (columnsOctets cs ++ rest))
 
   row-behind : drop (base + 8 * (i + 1)) d ≡ columnsOctets cs ++ rest
   row-behind =
@@ -164,10 +159,10 @@ module _ (d : List ℕ) (hs cs : List Column) (rest : List ℕ) (e : d ≡ start
   unfolding startOctets tablesOctets tableOctets
   first-rows = rw e (append-assoc (columnsOctets hs) (tableOctets cs) rest)
 
-  second-rows : drop (24 + 8 * length hs) d ≡ columnsOctets cs ++ rest
+  second-rows : drop (24 + 8 * length hs + 8 * 0) d ≡ columnsOctets cs ++ rest
   unfolding tableOctets
   second-rows =
-      let p : 20 + 8 * length hs + 4 ≡ 24 + 8 * length hs = omega arith in
+      let p : 20 + 8 * length hs + 4 ≡ 24 + 8 * length hs + 8 * 0 = omega arith in
       rw (← p, ← drop-drop 4 (20 + 8 * length hs) d, ← drop-drop (8 * length hs) 20 d, first-rows, drop-at (columnsOctets hs) (tableOctets cs ++ rest) (8 * length hs) (columns-length hs))
 
 pub table-for : (st : Writing) (d : List ℕ) (hs cs : List Column) (rest : List ℕ) (t : ℕ) → d ≡ startOctets hs cs ++ rest → SoundTable hs → SoundTable cs
@@ -182,8 +177,7 @@ table-for st d hs cs rest t e h k p q l = rw (p, q) (go (eqb (st .opened) 1) (rw
         rw z at (rows-from (st .next) d 20 t 0 [] hs (tableOctets cs ++ rest) (first-rows d hs cs rest e) (h .1) l)
     go false l =
         let z : 0 + st .next ≡ st .next = omega arith in
-        let y : 24 + 8 * length hs + 8 * 0 ≡ 24 + 8 * length hs = omega arith in
-        rw z at (rows-from (st .next) d (24 + 8 * length hs) t 0 [] cs rest (rw y (second-rows d hs cs rest e)) (k .1) l)
+        rw z at (rows-from (st .next) d (24 + 8 * length hs) t 0 [] cs rest (second-rows d hs cs rest e) (k .1) l)
 
 -- ---- a column by its tag
 
@@ -250,17 +244,13 @@ seek-there cs h i c l k =
 
 -- ---- the keys
 
-key-same : (c : Column) → keyBit (c .flags) ≡ isKey c
-unfolding keyBit
-key-same c = refl
-
 module _ (d : List ℕ) (base : ℕ) (rest p : List ℕ) (at : ℕ) where
   keys-held : (seen : List ℕ) (cs : List Column) (i : ℕ) → drop (base + 8 * i) d ≡ columnsOctets cs ++ rest → SoundColumns seen cs
       → keysFrom d (base + 4) p (length cs) i ≡ true → keysAt (rowSlots cs) i p at ≡ clear
   unfolding keysFrom keysAt
   keys-held seen [] i e h k = refl
   keys-held seen (c ∷ cs) i e h k =
-      let w : keyBit (wordOf 4 (drop (base + 4 + 8 * i) d)) ≡ isKey c = ap keyBit (row-flags d base i c cs rest e (h .0 .1)) ∙ key-same c in
+      let w = row-key d base i c cs rest e (h .0 .1) in
       let b = both-true (cond (isKey c) (isSet p i) true) _ (rw w at k) in
       rw (b .0) (rw add-one at (keys-held (c .tag ∷ seen) cs (i + 1) (row-behind d base i c cs rest e) (h .2) (b .1)))
 
@@ -269,22 +259,20 @@ module _ (d : List ℕ) (base : ℕ) (rest p : List ℕ) (at : ℕ) where
   unfolding keysFrom keysAt
   keys-due seen [] i e h k = refl
   keys-due seen (c ∷ cs) i e h k =
-      let w : keyBit (wordOf 4 (drop (base + 4 + 8 * i) d)) ≡ isKey c = ap keyBit (row-flags d base i c cs rest e (h .0 .1)) ∙ key-same c in
+      let w = row-key d base i c cs rest e (h .0 .1) in
       let b = apart (need (cond (isKey c) (isSet p i) true) keyAbsent (at + i / 8)) _ k in
       rw (w, unmet (cond (isKey c) (isSet p i) true) keyAbsent (at + i / 8) (b .0)) (keys-due (c .tag ∷ seen) cs (i + 1) (row-behind d base i c cs rest e) (h .2) (rw add-one (b .1)))
 
 module _ (d : List ℕ) (hs cs : List Column) (rest p : List ℕ) (at : ℕ) (e : d ≡ startOctets hs cs ++ rest) (h : SoundTable hs) (k : SoundTable cs) where
   pub keys-written : keysFrom d (28 + 8 * length hs) p (length cs) 0 ≡ true → keysAt (rowSlots cs) 0 p at ≡ clear
   keys-written q =
-      let y : 24 + 8 * length hs + 8 * 0 ≡ 24 + 8 * length hs = omega arith in
       let z : 28 + 8 * length hs ≡ 24 + 8 * length hs + 4 = omega arith in
-      keys-held d (24 + 8 * length hs) rest p at [] cs 0 (rw y (second-rows d hs cs rest e)) (k .1) (rw z at q)
+      keys-held d (24 + 8 * length hs) rest p at [] cs 0 (second-rows d hs cs rest e) (k .1) (rw z at q)
 
   pub keys-asked : keysAt (rowSlots cs) 0 p at ≡ clear → keysFrom d (28 + 8 * length hs) p (length cs) 0 ≡ true
   keys-asked q =
-      let y : 24 + 8 * length hs + 8 * 0 ≡ 24 + 8 * length hs = omega arith in
       let z : 28 + 8 * length hs ≡ 24 + 8 * length hs + 4 = omega arith in
-      rw z (keys-due d (24 + 8 * length hs) rest p at [] cs 0 (rw y (second-rows d hs cs rest e)) (k .1) q)
+      rw z (keys-due d (24 + 8 * length hs) rest p at [] cs 0 (second-rows d hs cs rest e) (k .1) q)
 
 -- ---- the form of a column is that of its tag
 
