@@ -7,7 +7,7 @@ use native.Mathlib.Omega.{arith}
 use mathlib.Core.Path.{_≡_, refl, sym, ap, ap₂, _∙_}
 use mathlib.Core.List.{List, [], _∷_, _++_, append-assoc, append-nil}
 use lib.ListN.{length, take, drop, set, length-append, length-drop}
-use lib.Seq.{take-append-add, drop-append-add, length-take-le, set-split, take-add}
+use lib.Seq.{take-append-add, drop-append-add, length-take-le, set-split, take-add, drop-cons}
 use Rattle.octets.specs.Word.{leOf}
 use Rattle.serial.specs.Serial.{serialOf}
 use Rattle.answers.specs.Numbers.{mostOctets, mostRecords}
@@ -15,7 +15,7 @@ use Rattle.entry.specs.Present.{Row}
 use Rattle.entry.specs.Record.{Slot, rowOctets}
 use Rattle.book.specs.Rows.{rowsOctets, SoundRows}
 use Rattle.book.specs.Book.{Book, Sound, rowSlots, sealed, bodyOctets, bookOctets, sealed-length}
-use Rattle.lookup.specs.Places.{rows-append, offset, rows-split, rows-before, rows-from, frontOctets, placeOf, body-is}
+use Rattle.lookup.specs.Places.{rows-append, offset, rows-split, rows-before, rows-from, frontOctets, placeOf, body-is, rowAt}
 use Rattle.editing.specs.Put.{put, resealed}
 
 -- ---- rows
@@ -43,7 +43,7 @@ set-row k r rs h = rw add-one (sym (set-split rs k r h))
 pub rows-measured : (k : ℕ) (rs : List Row) → length (rowsOctets rs) ≡ offset k rs + length (rowsOctets (drop k rs))
 rows-measured k rs = ap length (rows-split k rs) ∙ length-append (rowsOctets (take k rs)) (rowsOctets (drop k rs))
 
-pub offset-more : (k m : ℕ) (rs : List Row) → offset (k + m) rs ≡ offset k rs + offset m (drop k rs)
+offset-more : (k m : ℕ) (rs : List Row) → offset (k + m) rs ≡ offset k rs + offset m (drop k rs)
 offset-more k m rs =
     ap (λ (l : List Row). length (rowsOctets l)) (take-add k m rs) ∙ ap length (rows-append (take k rs) (take m (drop k rs))) ∙ length-append (rowsOctets (take k rs)) (rowsOctets (take m (drop k rs)))
 
@@ -107,6 +107,15 @@ edit-length k m news b =
     let d = ap length (front-edited k m news b) in
     let e = ap (λ (l : List Row). length (rowsOctets l)) (rows-of-edit k m news b) in
     let f = edited-measured k m news (b .rows) in
+    omega arith
+
+-- the next record stands behind record k
+pub place-next : (b : Book) (k : ℕ) → k < length (b .rows) → placeOf b (k + 1) ≡ placeOf b k + length (rowOctets (rowAt b k))
+unfolding placeOf
+place-next b k h =
+    let a = offset-more k 1 (b .rows) in
+    let c : offset 1 (drop k (b .rows)) ≡ length (rowOctets (rowAt b k)) =
+    ap (λ (l : List Row). offset 1 l) (drop-cons (b .rows) k [] h) ∙ ap length (append-nil (rowOctets (rowAt b k))) in
     omega arith
 
 -- ---- it is sound again

@@ -5,20 +5,20 @@ use native.Mathlib.Omega.{arith}
 use mathlib.Core.Path.{_≡_, refl, sym, ap, ap₂, _∙_}
 use mathlib.Core.Bool.{true, false}
 use mathlib.Core.Option.{Option}
-use mathlib.Core.List.{List, [], _∷_, _++_, append-assoc, append-nil}
+use mathlib.Core.List.{List, [], _∷_, _++_, append-assoc}
 use lib.ListN.{length, take, drop, set, length-append, length-set, take-append-drop}
-use lib.Seq.{take-at, drop-append-add, drop-append-seam, drop-cons, length-take-le}
+use lib.Seq.{take-at, drop-append-add, drop-append-seam, length-take-le}
 use Rattle.octets.specs.Word.{leOf}
 use Rattle.presence.specs.Presence.{room}
 use Rattle.entry.specs.Present.{Row, presenceOf, presence-length}
 use Rattle.entry.specs.Record.{valuesOf, rowOctets, row-length, row-long}
 use Rattle.book.specs.Rows.{rowsOctets}
 use Rattle.book.specs.Book.{Book, Sound, slots-long, headSlots, rowSlots, sealed, tablesOctets, bodyOctets, bookOctets}
-use Rattle.lookup.specs.Places.{offset, frontOctets, placeOf, rowAt, sound-at, record-from, head-from}
+use Rattle.lookup.specs.Places.{frontOctets, placeOf, rowAt, sound-at, record-from, head-from}
 use Rattle.lookup.specs.Values.{entryOctets, valueOffset}
 use Rattle.lookup.specs.Laws.{valuePlace}
 use Rattle.editing.specs.Put.{put, resealed, mark, spliced}
-use Rattle.editing.specs.Edit.{edit, offset-more, rows-measured, book-length, book-replaced, sealed-put}
+use Rattle.editing.specs.Edit.{edit, place-next, rows-measured, book-length, book-replaced, sealed-put}
 use Rattle.editing.specs.Entry.{entryAt, values-cut, values-here, presence-put, framed, row-framed}
 
 -- ---- parts of a list replaced
@@ -109,14 +109,6 @@ row-spliced at n i e es A R ha hn h =
         put at (at + 4) (leOf 4 (newSize es i e)) (put (at + 4) (at + 4 + room n) p′ (put (at + 4 + room n + valueOffset i es) (at + 4 + room n + valueOffset i es + length (entryOctets (entryAt es i))) m xs))
 
 -- ---- the book
-
-place-next : (b : Book) (k : ℕ) → k < length (b .rows) → placeOf b (k + 1) ≡ placeOf b k + length (rowOctets (rowAt b k))
-unfolding placeOf
-place-next b k h =
-    let a = offset-more k 1 (b .rows) in
-    let c : offset 1 (drop k (b .rows)) ≡ length (rowOctets (rowAt b k)) =
-    ap (λ (l : List Row). offset 1 l) (drop-cons (b .rows) k [] h) ∙ ap length (append-nil (rowOctets (rowAt b k))) in
-    omega arith
 
 place-within : (b : Book) (k : ℕ) → placeOf b k ≤ length (bookOctets b)
 unfolding placeOf
