@@ -100,7 +100,7 @@ row-long [] (e ∷ es) h = absurd h
 row-long (s ∷ ss) [] h = absurd h
 row-long (s ∷ ss) (e ∷ es) h = ap suc (row-long ss es (h .1))
 
-keys-back : (ss : List Slot) (es : Row) (i : ℕ) (p : List ℕ) (at : ℕ) → SoundRow ss es → Bits p i es → keysAt ss i p at ≡ clear
+pub keys-back : (ss : List Slot) (es : Row) (i : ℕ) (p : List ℕ) (at : ℕ) → SoundRow ss es → Bits p i es → keysAt ss i p at ≡ clear
 unfolding keysAt
 keys-back [] [] i p at h b = refl
 keys-back [] (e ∷ es) i p at h b = absurd h
@@ -309,6 +309,10 @@ row-octets ss es h =
 abbrev pub freed : List Slot → List Slot
 freed [] = []
 freed (s ∷ ss) = record { form = s .form; must = false } ∷ freed ss
+
+pub freed-long : (ss : List Slot) → length (freed ss) ≡ length ss
+freed-long [] = refl
+freed-long (s ∷ ss) = ap suc (freed-long ss)
 
 pub freed-row : (ss : List Slot) (es : Row) → SoundRow ss es → SoundRow (freed ss) es
 freed-row [] [] h = tt

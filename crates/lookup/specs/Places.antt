@@ -25,10 +25,10 @@ rows-append (r ∷ rs) qs = ap (λ (l : List ℕ). rowOctets r ++ l) (rows-appen
 abbrev pub offset : ℕ → List Row → ℕ
 offset k rs = length (rowsOctets (take k rs))
 
-rows-split : (k : ℕ) (rs : List Row) → rowsOctets rs ≡ rowsOctets (take k rs) ++ rowsOctets (drop k rs)
+pub rows-split : (k : ℕ) (rs : List Row) → rowsOctets rs ≡ rowsOctets (take k rs) ++ rowsOctets (drop k rs)
 rows-split k rs = ap rowsOctets (sym (take-append-drop k rs)) ∙ rows-append (take k rs) (drop k rs)
 
-rows-before : (k : ℕ) (rs : List Row) → take (offset k rs) (rowsOctets rs) ≡ rowsOctets (take k rs)
+pub rows-before : (k : ℕ) (rs : List Row) → take (offset k rs) (rowsOctets rs) ≡ rowsOctets (take k rs)
 rows-before k rs = ap (take (offset k rs)) (rows-split k rs) ∙ take-at (rowsOctets (take k rs)) (rowsOctets (drop k rs)) (offset k rs) refl
 
 pub rows-from : (k : ℕ) (rs : List Row) → drop (offset k rs) (rowsOctets rs) ≡ rowsOctets (drop k rs)
