@@ -108,9 +108,9 @@ pub record Inside (st : Writing) (d d₀ : List ℕ) (hs cs : List Column) (rows
   pub blank : Blank (p .next) (p .row)
   pub fine : Fine (openSlots hs cs (length rows + 1)) p (st .form)
 
+abbrev pub StandsBy : Writing → List ℕ → List ℕ → Draft → Option Part → Type 0
+StandsBy st d d₀ dr none = Between st d d₀ (dr .heads) (dr .cols) (dr .rows)
+StandsBy st d d₀ dr (some p) = Inside st d d₀ (dr .heads) (dr .cols) (dr .rows) p
+
 abbrev pub Stands : Writing → List ℕ → List ℕ → Draft → Type 0
-Stands st d d₀ dr = by (dr .part)
-  where
-    by : Option Part → Type 0
-    by none = Between st d d₀ (dr .heads) (dr .cols) (dr .rows)
-    by (some p) = Inside st d d₀ (dr .heads) (dr .cols) (dr .rows) p
+Stands st d d₀ dr = StandsBy st d d₀ dr (dr .part)

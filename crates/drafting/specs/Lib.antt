@@ -6,3 +6,5 @@ pub mod Draft
 pub mod Turns
 pub mod Gives
 pub mod Keeps
+pub mod Finish
+pub mod Run
