@@ -95,9 +95,11 @@ closed-head hs cs r rs t = brackets (leOf 4 32) (leOf 4 0) (leOf 4 0) (tablesOct
     brackets : (a b c x y t : List ℕ) → ((a ++ (b ++ (c ++ x))) ++ y) ++ t ≡ a ++ (b ++ (c ++ ((x ++ y) ++ t)))
     brackets a b c x y t = simp append-assoc
 
-pub record Finished (d d₀ : List ℕ) (b : Book) : Type 0 where
+-- the buffer d, lent as d₀, has the book in front; as many octets are answered
+pub record Finished (st : Writing) (d d₀ : List ℕ) (b : Book) : Type 0 where
   pub sound : Sound b
   pub octets : d ≡ written (bookOctets b) d₀
+  pub long : st .written ≡ length (bookOctets b)
   pub room : length (bookOctets b) ≤ length d₀
   pub good : judge (bookOctets b) ≡ clear
 
@@ -111,7 +113,7 @@ body-long hs cs r rs =
     twelve : (l : List ℕ) → length (leOf 4 32 ++ (leOf 4 0 ++ (leOf 4 0 ++ l))) ≡ 12 + length l
     twelve l = omega arith
 
-pub finish-is : (st : Writing) (d d₀ : List ℕ) (hs cs : List Column) (rows : List Row) → Between st d d₀ hs cs rows → finishAt st (length d) ≡ clear → Finished (finishOctets st d) d₀ (bookFrom hs cs rows)
+pub finish-is : (st : Writing) (d d₀ : List ℕ) (hs cs : List Column) (rows : List Row) → Between st d d₀ hs cs rows → finishAt st (length d) ≡ clear → Finished st (finishOctets st d) d₀ (bookFrom hs cs rows)
 unfolding finishOctets bookOctets
 finish-is st d d₀ hs cs [] i e = let f = finish-in st (length d) e .records in let o = i .opened in absurd (omega arith)
 finish-is st d d₀ hs cs (r ∷ rs) i e =
@@ -139,4 +141,4 @@ finish-is st d d₀ hs cs (r ∷ rs) i e =
       few = omega (arith, i .few);
       short = omega (arith, fr .limit);
     } in
-    record { sound = sound; octets = rw e s; room = omega (arith, fr .room); good = judge-back b sound }
+    record { sound = sound; octets = rw e s; long = w ∙ lp ∙ sym lb; room = omega (arith, fr .room); good = judge-back b sound }

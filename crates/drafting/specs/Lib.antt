@@ -8,3 +8,4 @@ pub mod Gives
 pub mod Keeps
 pub mod Finish
 pub mod Run
+pub mod Written

@@ -130,7 +130,7 @@ beyond Close st d = need (cond (eqb (st .opened) 1) true (keysFrom d (28 + 8 * s
 beyond (Give t v) st d = need (formed (formOf (t % 65536)) v) breaksForm 0 then roomAt (st .written) (length d) (length (octetsFor (formOf (t % 65536)) v))
 beyond (Add v) st d = need (formed (dueForm st) v) breaksForm 0 then roomAt (st .written) (length d) (length (octetsFor (dueForm st) v))
 
-inside-started : (st : Writing) (d d₀ : List ℕ) (hs cs : List Column) (rows : List Row) (p : Part) → Inside st d d₀ hs cs rows p → st .start ≡ 0 → ⊥
+pub inside-started : (st : Writing) (d d₀ : List ℕ) (hs cs : List Column) (rows : List Row) (p : Part) → Inside st d d₀ hs cs rows p → st .start ≡ 0 → ⊥
 inside-started st d d₀ hs cs rows p i z = let l = closed-long hs cs rows in let s = i .start in absurd (omega arith)
 
 no-column : (st : Writing) (d : List ℕ) (t : ℕ) → withinOf st (length d) ≡ false → isFound (columnFor st d t) ≡ false
