@@ -109,6 +109,10 @@ marked-long f es c =
     let e = length-setBit (presenceOf es) c in
     simp length-append (omega arith)
 
+pub given-long : (f : List ℕ) (es : Row) (n c : ℕ) (v : List ℕ) → c < length es → Blank n es → n ≤ c → length (f ++ openRecord (set es c (some v))) ≡ length (f ++ openRecord es) + length v
+given-long f es n c v l b h =
+    ap length (sym (given-behind f [] es n c (length f) v l b h refl)) ∙ length-append (f ++ (leOf 4 0 ++ (setBit (presenceOf es) c ++ valuesOf es))) v ∙ ap (λ (x : ℕ). x + length v) (marked-long f es c)
+
 -- ---- the entries
 
 freed-form : (ss : List Slot) (c : ℕ) → formIn (freed ss) c ≡ formIn ss c
@@ -121,7 +125,7 @@ freed-must [] c = refl
 freed-must (s ∷ ss) zero = refl
 freed-must (s ∷ ss) (suc c) = freed-must ss c
 
-set-twice : (es : Row) (c : ℕ) (e x : Option (List ℕ)) → set (set es c e) c x ≡ set es c x
+pub set-twice : (es : Row) (c : ℕ) (e x : Option (List ℕ)) → set (set es c e) c x ≡ set es c x
 set-twice [] c e x = refl
 set-twice (y ∷ es) zero e x = refl
 set-twice (y ∷ es) (suc c) e x = ap (λ (l : Row). y ∷ l) (set-twice es c e x)
@@ -171,7 +175,7 @@ given-fine ss p c tag v s l f h e = go v h e
 abbrev pub adding : Part → List ℕ → Part
 adding p v = record { row = set (p .row) (p .next - 1) (some (entryOctets (getD (p .row) (p .next - 1) none) ++ v)); next = p .next; due = p .due - 1 }
 
-adding-is : (p : Part) (c : ℕ) (u v : List ℕ) → p .next ≡ suc c → getD (p .row) c none ≡ some u → adding p v ≡ record { row = set (p .row) c (some (u ++ v)); next = p .next; due = p .due - 1 }
+pub adding-is : (p : Part) (c : ℕ) (u v : List ℕ) → p .next ≡ suc c → getD (p .row) c none ≡ some u → adding p v ≡ record { row = set (p .row) c (some (u ++ v)); next = p .next; due = p .due - 1 }
 adding-is p c u v n g =
     let m : p .next - 1 ≡ c = omega arith in
     ap (λ (j : ℕ). record { row = set (p .row) j (some (entryOctets (getD (p .row) j none) ++ v)); next = p .next; due = p .due - 1 }) m
@@ -208,7 +212,18 @@ added-behind f es c u v l b g =
     behind-in f (leOf 4 0) (presenceOf es) (valuesOf es) v
     ∙ ap₂ (λ (x y : List ℕ). f ++ (leOf 4 0 ++ (x ++ y))) (sym (presence-added es c u (u ++ v) l g)) (sym (values-added c es u v b g))
 
+pub added-long : (f : List ℕ) (es : Row) (c : ℕ) (u v : List ℕ) → c < length es → Blank (suc c) es → getD es c none ≡ some u → length (f ++ openRecord (set es c (some (u ++ v)))) ≡ length (f ++ openRecord es) + length v
+added-long f es c u v l b g = ap length (sym (added-behind f es c u v l b g)) ∙ length-append (f ++ openRecord es) v
+
 -- ---- the calls
+
+-- the form of a column is its tag's
+pub open-form : (hs cs : List Column) (k c : ℕ) → c < length (openColumns hs cs k) → formIn (openSlots hs cs k) c ≡ formOf (getD (tagsOf (openColumns hs cs k)) c 0 % 65536)
+open-form hs cs k c = go (eqb k 1)
+  where
+    go : (t : Bool) → c < length (cond t hs cs) → getD (cond t (headSlots hs) (rowSlots cs)) c noSlot .form ≡ formOf (getD (tagsOf (cond t hs cs)) c 0 % 65536)
+    go true l = slot-form false hs c noSlot l
+    go false l = slot-form true cs c noSlot l
 
 module _ (st : Writing) (d d₀ : List ℕ) (hs cs : List Column) (rows : List Row) (p : Part) (i : Inside st d d₀ hs cs rows p) where
   abbrev k : ℕ
@@ -219,11 +234,7 @@ module _ (st : Writing) (d d₀ : List ℕ) (hs cs : List Column) (rows : List R
   column-form tag c z q =
       let s = seek-found tag (tagsOf (openColumns hs cs k)) (p .next) c (sym (column-is st d d₀ hs cs rows p tag i z) ∙ q) in
       let l : c < length (openColumns hs cs k) = rw (tags-long (openColumns hs cs k)) at (s .1) in
-      go (eqb k 1) l (s .2)
-    where
-      go : (t : Bool) → c < length (cond t hs cs) → getD (tagsOf (cond t hs cs)) c 0 ≡ tag → getD (cond t (headSlots hs) (rowSlots cs)) c noSlot .form ≡ formOf (tag % 65536)
-      go true l e = slot-form false hs c noSlot l ∙ ap (λ (x : ℕ). formOf (x % 65536)) e
-      go false l e = slot-form true cs c noSlot l ∙ ap (λ (x : ℕ). formOf (x % 65536)) e
+      open-form hs cs k c l ∙ ap (λ (x : ℕ). formOf (x % 65536)) (s .2)
 
   pub give-keeps : (tag : ℕ) (v : Given) → Handed v → giveAt st d tag v ≡ clear
       → Inside (giveNext st d tag v) (giveOctets st d tag v) d₀ hs cs rows (giving p (columnOf (columnFor st d tag)) (octetsFor (formOf (tag % 65536)) v) (leftOf v))
@@ -251,9 +262,7 @@ module _ (st : Writing) (d d₀ : List ℕ) (hs cs : List Column) (rows : List R
         ap (λ (x : List ℕ). stored x (st .written) vs) marks
         ∙ stored-behind (f ++ (leOf 4 0 ++ (setBit (presenceOf es) c ++ valuesOf es))) vs d₀ (st .written) (lw ∙ sym same) (omega arith)
         ∙ ap (λ (x : List ℕ). written x d₀) (given-behind f d₀ es (p .next) c (st .start) vs l (i .blank) n (i .start)) in
-      let long : length (f ++ openRecord (set es c (some vs))) ≡ length (f ++ openRecord es) + length vs =
-        ap length (sym (given-behind f d₀ es (p .next) c (st .start) vs l (i .blank) n (i .start)))
-        ∙ length-append (f ++ (leOf 4 0 ++ (setBit (presenceOf es) c ++ valuesOf es))) vs ∙ ap (λ (x : ℕ). x + length vs) same in
+      let long : length (f ++ openRecord (set es c (some vs))) ≡ length (f ++ openRecord es) + length vs = given-long f es (p .next) c vs l (i .blank) n in
       rw (t .found, e)
       (record {
         begun = record { header = b .header; address = b .address; heads = b .heads; cols = b .cols; live = b .live };
@@ -292,8 +301,7 @@ module _ (st : Writing) (d d₀ : List ℕ) (hs cs : List Column) (rows : List R
         ap (λ (y : List ℕ). stored y (st .written) ws) (fr .octets)
         ∙ stored-behind (x ++ openRecord es) ws d₀ (st .written) lw (omega arith)
         ∙ ap (λ (y : List ℕ). written y d₀) (added-behind x es c u ws l bl g) in
-      let long : length (x ++ openRecord (set es c (some (u ++ ws)))) ≡ length (x ++ openRecord es) + length ws =
-        ap length (sym (added-behind x es c u ws l bl g)) ∙ length-append (x ++ openRecord es) ws in
+      let long : length (x ++ openRecord (set es c (some (u ++ ws)))) ≡ length (x ++ openRecord es) + length ws = added-long x es c u ws l bl g in
       let left : p .due ≡ suc (p .due - 1) = (let a = i .left in let z = t .due in omega arith) in
       let ef : dueForm st ≡ elementForm (formIn (openSlots hs cs k) c) = ap elementForm f in
       let new : Option (List ℕ) = some (u ++ ws) in

@@ -118,11 +118,11 @@ sized : (es : Row) → rowOctets es ≡ leOf 4 (length (openRecord es)) ++ (pres
 unfolding rowOctets openRecord
 sized es = ap (λ (n : ℕ). leOf 4 n ++ (presenceOf es ++ valuesOf es)) (sym (length-word 4 0 (presenceOf es ++ valuesOf es)))
 
-row-open : (es : Row) → length (rowOctets es) ≡ length (openRecord es)
+pub row-open : (es : Row) → length (rowOctets es) ≡ length (openRecord es)
 unfolding openRecord
 row-open es = ap length (sized es) ∙ length-word 4 (length (openRecord es)) (presenceOf es ++ valuesOf es) ∙ sym (length-word 4 0 (presenceOf es ++ valuesOf es))
 
-rows-snoc : (hs cs : List Column) (rows : List Row) (es : Row) → closedOctets hs cs (rows ++ (es ∷ [])) ≡ closedOctets hs cs rows ++ rowOctets es
+pub rows-snoc : (hs cs : List Column) (rows : List Row) (es : Row) → closedOctets hs cs (rows ++ (es ∷ [])) ≡ closedOctets hs cs rows ++ rowOctets es
 unfolding closedOctets
 rows-snoc hs cs rows es = rw (rows-append rows (es ∷ []), append-nil (rowOctets es)) (sym (append-assoc (startOctets hs cs) (rowsOctets rows) (rowOctets es)))
 
@@ -154,7 +154,7 @@ unfolding bitAt
 bit-front p r j h = ap (λ (x : ℕ). eqb (bitOf x (7 - j % 8)) 1) (List·getD-append p r 0 (j / 8) h)
 
 -- keys are asked of the presence octets alone
-keys-front : (ss : List Slot) (i : ℕ) (p r : List ℕ) (at : ℕ) → i + length ss ≤ 8 * length p → keysAt ss i (p ++ r) at ≡ keysAt ss i p at
+pub keys-front : (ss : List Slot) (i : ℕ) (p r : List ℕ) (at : ℕ) → i + length ss ≤ 8 * length p → keysAt ss i (p ++ r) at ≡ keysAt ss i p at
 unfolding keysAt
 keys-front [] i p r at h = refl
 keys-front (s ∷ ss) i p r at h = rw (bit-front p r i (omega arith), keys-front ss (suc i) p r at (omega arith))
@@ -168,14 +168,14 @@ close-asked st d e o =
     let u : cond (eqb (st .opened) 1) true b ≡ true = unmet (cond (eqb (st .opened) 1) true b) breaksRule 0 (c₂ .1) in
     ap (λ (t : Bool). cond t true b) (sym (ne-eqb (st .opened) 1 o)) ∙ u
 
-behind-start : (hs cs : List Column) (rows : List Row) (es : Row) (t : List ℕ) → (closedOctets hs cs rows ++ openRecord es) ++ t ≡ startOctets hs cs ++ ((rowsOctets rows ++ openRecord es) ++ t)
+pub behind-start : (hs cs : List Column) (rows : List Row) (es : Row) (t : List ℕ) → (closedOctets hs cs rows ++ openRecord es) ++ t ≡ startOctets hs cs ++ ((rowsOctets rows ++ openRecord es) ++ t)
 unfolding closedOctets
 behind-start hs cs rows es t = brackets (startOctets hs cs) (rowsOctets rows) (openRecord es) t
   where
     brackets : (a x y z : List ℕ) → ((a ++ x) ++ y) ++ z ≡ a ++ ((x ++ y) ++ z)
     brackets a x y z = simp append-assoc
 
-present-at : (f : List ℕ) (es : Row) (t : List ℕ) → drop (length f + 4) ((f ++ openRecord es) ++ t) ≡ presenceOf es ++ (valuesOf es ++ t)
+pub present-at : (f : List ℕ) (es : Row) (t : List ℕ) → drop (length f + 4) ((f ++ openRecord es) ++ t) ≡ presenceOf es ++ (valuesOf es ++ t)
 unfolding openRecord
 present-at f es t =
     ap (drop (length f + 4)) (brackets f (leOf 4 0) (presenceOf es) (valuesOf es) t) ∙ drop-at (f ++ leOf 4 0) (presenceOf es ++ (valuesOf es ++ t)) (length f + 4) (length-append f (leOf 4 0))

@@ -105,7 +105,7 @@ finish-out-of-turn st d d₀ dr i =
 
 -- ---- each accepted call keeps the relation
 
-due-form : (st : Writing) (d d₀ : List ℕ) (dr : Draft) (p : Part) → Inside st d d₀ (dr .heads) (dr .cols) (dr .rows) p → 1 ≤ st .left
+pub due-form : (st : Writing) (d d₀ : List ℕ) (dr : Draft) (p : Part) → Inside st d d₀ (dr .heads) (dr .cols) (dr .rows) p → 1 ≤ st .left
     → dueForm st ≡ elementForm (formIn (openSlots (dr .heads) (dr .cols) (length (dr .rows) + 1)) (p .next - 1))
 due-form st d d₀ dr p i h = go (i .fine)
   where
