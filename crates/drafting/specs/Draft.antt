@@ -1,5 +1,5 @@
 -- A draft of a book: its tables, its closed records, and the open record so far. What its octets are, and when a writing and its buffer stand for it.
-use Prim.Native.Nat.{ℕ, zero, suc, _+_, _*_, _≤_, _<_}
+use Prim.Native.Nat.{ℕ, suc, _+_, _≤_, _<_}
 use mathlib.Core.Path.{_≡_}
 use mathlib.Core.Bool.{false, cond}
 use mathlib.Core.Option.{Option, none, some}

@@ -1,19 +1,18 @@
 -- Begin establishes the relation between a writing with its buffer and a draft; an accepted finish leaves the octets of the book that the draft is, which may
 -- be written, and is judged good. What stands behind the book is as it was lent.
-use Prim.Native.Nat.{ℕ, zero, suc, _+_, _-_, _*_, _^_, _≤_, _<_}
+use Prim.Native.Nat.{ℕ, _+_, _-_, _≤_}
 use native.Mathlib.Omega.{arith}
 use mathlib.Core.Path.{_≡_, refl, sym, ap, ap₂, _∙_}
-use mathlib.Core.Bool.{Bool, true, false}
 use mathlib.Core.List.{List, [], _∷_, _++_, append-assoc, append-nil}
 use lib.Dec.{eqb}
-use lib.ListN.{length, take, drop, length-append}
+use lib.ListN.{length, take, drop}
 use lib.Seq.{take-at}
 use Rattle.octets.specs.Splice.{stored}
 use Rattle.octets.specs.Word.{leOf}
 use Rattle.serial.specs.Serial.{serialOf}
-use Rattle.answers.specs.Numbers.{mostOctets, outOfTurn}
+use Rattle.answers.specs.Numbers.{outOfTurn}
 use Rattle.answers.specs.declared.Verdict.the-variants.{Clear as clear}
-use Rattle.answers.specs.Verdict.{_then_, need, apart}
+use Rattle.answers.specs.Verdict.{need, apart}
 use Rattle.table.specs.Table.{Column}
 use Rattle.entry.specs.Present.{Row}
 use Rattle.entry.specs.Record.{rowOctets}
@@ -21,13 +20,12 @@ use Rattle.book.specs.Rows.{rowsOctets}
 use Rattle.book.specs.Book.{Book, Sound, sealed, sealed-length, tablesOctets, bodyOctets, bookOctets, judge, judge-back}
 use Rattle.writing.specs.declared.Writing.{Writing}
 use Rattle.framing.specs.Frame.{finishAt, sealedTo, finishOctets}
-use Rattle.framing.specs.Cases.{Finishes, finish-in}
+use Rattle.framing.specs.Cases.{finish-in}
 use Rattle.begin.specs.Begin.{tagsAt, beginAt, beginNext, beginOctets, columnsFrom, startOctets}
-use Rattle.begin.specs.Cases.{Begins, begin-in}
+use Rattle.begin.specs.Cases.{begin-in}
 use Rattle.drafting.specs.Lists.{written, stored-behind, stored-over}
 use Rattle.drafting.specs.Start.{Tags, start-long, from-long, from-sound}
-use Rattle.drafting.specs.Draft.{closedOctets, Front, Between}
-use Rattle.drafting.specs.Turns.{closed-long}
+use Rattle.drafting.specs.Draft.{closedOctets, Between}
 
 -- ---- begin
 
@@ -85,7 +83,7 @@ sealed-to ys t w n e =
     let b : take (w - 12) (drop 12 d) ≡ ys = rw m (take-at ys t (length ys) refl) in
     let s : stored d 8 (leOf 4 n) ≡ (leOf 4 32 ++ leOf 4 0) ++ (leOf 4 n ++ (ys ++ t)) = stored-over (leOf 4 32 ++ leOf 4 0) (leOf 4 0) (leOf 4 n) (ys ++ t) 8 refl refl in
     let u : stored ((leOf 4 32 ++ leOf 4 0) ++ (leOf 4 n ++ (ys ++ t))) 4 (leOf 4 (serialOf ys)) ≡ leOf 4 32 ++ (leOf 4 (serialOf ys) ++ (leOf 4 n ++ (ys ++ t))) =
-      stored-over (leOf 4 32) (leOf 4 0) (leOf 4 (serialOf ys)) (leOf 4 n ++ (ys ++ t)) 4 refl refl in
+    stored-over (leOf 4 32) (leOf 4 0) (leOf 4 (serialOf ys)) (leOf 4 n ++ (ys ++ t)) 4 refl refl in
     rw b (ap (λ (x : List ℕ). stored x 4 (leOf 4 (serialOf ys))) s ∙ u)
 
 closed-head : (hs cs : List Column) (r : Row) (rs : List Row) (t : List ℕ) → closedOctets hs cs (r ∷ rs) ++ t ≡ leOf 4 32 ++ (leOf 4 0 ++ (leOf 4 0 ++ (bodyOctets (bookFrom hs cs (r ∷ rs)) ++ t)))
@@ -128,8 +126,8 @@ finish-is st d d₀ hs cs (r ∷ rs) i e =
     let n : st .opened - 1 ≡ length rs = (let o = i .opened in omega arith) in
     let q : d ≡ leOf 4 32 ++ (leOf 4 0 ++ (leOf 4 0 ++ (ys ++ drop (length p) d₀))) = fr .octets ∙ closed-head hs cs r rs (drop (length p) d₀) in
     let s : sealedTo d (st .written) (st .opened - 1) ≡ written (bookOctets b) d₀ =
-      ap₂ (λ (x : List ℕ) (m : ℕ). sealedTo x (st .written) m) q n ∙ sealed-to ys (drop (length p) d₀) (st .written) (length rs) (w ∙ lp)
-      ∙ ap (λ (k : ℕ). bookOctets b ++ drop k d₀) (lp ∙ sym lb) in
+    ap₂ (λ (x : List ℕ) (m : ℕ). sealedTo x (st .written) m) q n ∙ sealed-to ys (drop (length p) d₀) (st .written) (length rs) (w ∙ lp)
+    ∙ ap (λ (k : ℕ). bookOctets b ++ drop k d₀) (lp ∙ sym lb) in
     let some = f .records in
     let o = i .opened in
     let sound : Sound b = record {

@@ -1,46 +1,42 @@
 -- Giving a value, and an element of a list, keeps the relation between a writing with its buffer and a draft.
-use Prim.Native.Nat.{ℕ, zero, suc, _+_, _-_, _*_, _/_, _%_, _≤_, _<_}
+use Prim.Native.Nat.{ℕ, zero, suc, _+_, _-_, _/_, _%_, _≤_, _<_}
 use native.Mathlib.Omega.{arith}
 use mathlib.Core.Path.{_≡_, refl, sym, ap, ap₂, _∙_}
 use mathlib.Core.Bool.{Bool, true, false, cond, not}
 use borrow.Author.Tests.{eqb-false, not-true}
 use mathlib.Core.Option.{Option, none, some}
-use mathlib.Core.List.{List, [], _∷_, _++_, append-assoc, append-nil}
+use mathlib.Core.List.{List, [], _∷_, _++_, append-assoc}
 use lib.Dec.{eqb}
 use native.Mathlib.Numerals.{add-one}
 use lib.Seq.{set-getD, getD-set-same}
-use lib.ListN.{length, take, drop, getD, set, replicate, length-append, length-replicate, length-set}
+use lib.ListN.{length, drop, getD, set, length-append, length-set}
 use Rattle.octets.specs.Octets.{Octets, octets-append}
 use Rattle.octets.specs.Splice.{stored}
-use Rattle.octets.specs.Word.{leOf, length-word, length-leOf}
-use Rattle.answers.specs.Numbers.{mostOctets, outOfTurn, breaksForm}
-use Rattle.answers.specs.Verdict.{_then_, need, apart, unmet}
+use Rattle.octets.specs.Word.{leOf}
+use Rattle.answers.specs.Numbers.{outOfTurn, breaksForm}
+use Rattle.answers.specs.Verdict.{need, apart, unmet}
 use Rattle.answers.specs.declared.Verdict.the-variants.{Clear as clear}
 use Rattle.presence.specs.Presence.{room, setBit}
 use Rattle.value.specs.Types.{formAt, numberOf, formOf}
 use Rattle.value.specs.Form.{IsValue}
-use Rattle.table.specs.Table.{Column, SoundTable}
+use Rattle.table.specs.Table.{Column}
 use Rattle.table.specs.Columns.{tagsOf, tags-long}
 use Rattle.table.specs.Found.{isFound, columnOf}
 use Rattle.table.specs.declared.Found.{Found}
 use Rattle.table.specs.declared.Found.the-variants.{At, Nothing}
 use Rattle.entry.specs.Present.{Row, presenceOf, presence-length, length-setBit}
-use Rattle.entry.specs.Record.{Slot, SoundEntry, SoundRow, freed, valuesOf, innerOf, rowOctets, row-length, row-long}
-use Rattle.book.specs.Book.{slots-long, headSlots, rowSlots}
-use Rattle.book.specs.Rows.{rowsOctets, SoundRows}
-use Rattle.lookup.specs.Places.{rows-append}
+use Rattle.entry.specs.Record.{Slot, SoundRow, freed, valuesOf, row-long}
+use Rattle.book.specs.Book.{headSlots, rowSlots}
 use Rattle.writing.specs.State.{columnsOf, withinOf, Within, within-in, Roomy, room-in}
 use Rattle.writing.specs.Column.{columnFor}
 use Rattle.writing.specs.declared.Writing.{Writing}
-use Rattle.framing.specs.Frame.{openSize, openAt, openNext, openOctets, closeAt, closeNext, closeOctets}
-use Rattle.framing.specs.Cases.{open-in, close-in}
 use Rattle.giving.specs.Give.{Given, Number, Truth, Octets as Whole, Count, formed, octetsFor, leftOf, formLeft, giveAt, giveNext, giveOctets, marked, elementForm, dueForm, elementAt, elementNext, elementOctets}
 use Rattle.giving.specs.Cases.{Turn, turn-in}
-use Rattle.drafting.specs.Lists.{written, written-long, stored-behind, stored-over, marked-over}
-use Rattle.drafting.specs.Open.{Blank, blankRow, blank-all, openRecord, blank-record, open-long, blank-set, values-given, values-added}
+use Rattle.drafting.specs.Lists.{written, written-long, stored-behind, marked-over}
+use Rattle.drafting.specs.Open.{Blank, openRecord, blank-set, values-given, values-added}
 use Rattle.drafting.specs.Spell.{Handed, Owed, given-owed, given-octets, element-owed, owed-done}
-use Rattle.drafting.specs.Start.{openColumns, seekTag, table-for, seek-found, keys-written, slot-form}
-use Rattle.drafting.specs.Draft.{Part, closedOctets, openSlots, noSlot, formIn, SoundClosed, Fine, whole, listing, Begun, Front, Between, Inside}
+use Rattle.drafting.specs.Start.{openColumns, seek-found, slot-form}
+use Rattle.drafting.specs.Draft.{Part, closedOctets, openSlots, noSlot, formIn, Fine, whole, listing, Inside}
 use Rattle.editing.specs.Entry.{presence-put, put-sound}
 use Rattle.drafting.specs.Turns.{columns-open, column-is}
 use Rattle.lookup.specs.Values.{entryOctets}
@@ -88,7 +84,7 @@ module _ (f d₀ : List ℕ) (es : Row) (n c start : ℕ) (v : List ℕ) (l : c 
       let q : c / 8 < length p = rw (presence-length es) (omega arith) in
       let t : List ℕ = drop (length (f ++ (leOf 4 0 ++ (p ++ valuesOf es)))) d₀ in
       let same : length (f ++ (leOf 4 0 ++ (p ++ valuesOf es))) ≡ length (f ++ (leOf 4 0 ++ (setBit p c ++ valuesOf es))) =
-        alike f p (setBit p c) (valuesOf es) (sym (length-setBit p c)) in
+      alike f p (setBit p c) (valuesOf es) (sym (length-setBit p c)) in
       ap (λ (x : List ℕ). marked x (start + 4) c) (apart-in f (leOf 4 0) p (valuesOf es) t)
       ∙ marked-over (f ++ leOf 4 0) p (valuesOf es ++ t) (start + 4) c (sym a) q
       ∙ sym (apart-in f (leOf 4 0) (setBit p c) (valuesOf es) t)
@@ -252,16 +248,16 @@ module _ (st : Writing) (d d₀ : List ℕ) (hs cs : List Column) (rows : List R
       let l : c < length es = omega (arith, wide, t .turn .there) in
       let n : p .next ≤ c = omega (arith, i .next, t .turn .later) in
       let marks : marked d (st .start + 4) c ≡ written (f ++ (leOf 4 0 ++ (setBit (presenceOf es) c ++ valuesOf es))) d₀ =
-        ap (λ (x : List ℕ). marked x (st .start + 4) c) (fr .octets) ∙ given-marked f d₀ es (p .next) c (st .start) vs l (i .blank) n (i .start) in
+      ap (λ (x : List ℕ). marked x (st .start + 4) c) (fr .octets) ∙ given-marked f d₀ es (p .next) c (st .start) vs l (i .blank) n (i .start) in
       let same : length (f ++ (leOf 4 0 ++ (setBit (presenceOf es) c ++ valuesOf es))) ≡ length (f ++ openRecord es) = marked-long f es c in
       let dl : length d ≡ length d₀ = ap length (fr .octets) ∙ written-long (f ++ openRecord es) d₀ (fr .room) in
       let r = t .roomy .buffer in
       let m = t .roomy .limit in
       let lw = fr .length-is in
       let s : stored (marked d (st .start + 4) c) (st .written) vs ≡ written (f ++ openRecord (set es c (some vs))) d₀ =
-        ap (λ (x : List ℕ). stored x (st .written) vs) marks
-        ∙ stored-behind (f ++ (leOf 4 0 ++ (setBit (presenceOf es) c ++ valuesOf es))) vs d₀ (st .written) (lw ∙ sym same) (omega arith)
-        ∙ ap (λ (x : List ℕ). written x d₀) (given-behind f d₀ es (p .next) c (st .start) vs l (i .blank) n (i .start)) in
+      ap (λ (x : List ℕ). stored x (st .written) vs) marks
+      ∙ stored-behind (f ++ (leOf 4 0 ++ (setBit (presenceOf es) c ++ valuesOf es))) vs d₀ (st .written) (lw ∙ sym same) (omega arith)
+      ∙ ap (λ (x : List ℕ). written x d₀) (given-behind f d₀ es (p .next) c (st .start) vs l (i .blank) n (i .start)) in
       let long : length (f ++ openRecord (set es c (some vs))) ≡ length (f ++ openRecord es) + length vs = given-long f es (p .next) c vs l (i .blank) n in
       rw (t .found, e)
       (record {
@@ -298,9 +294,9 @@ module _ (st : Writing) (d d₀ : List ℕ) (hs cs : List Column) (rows : List R
       let lw = fr .length-is in
       let bl : Blank (suc c) es = rw n at (i .blank) in
       let st' : stored d (st .written) ws ≡ written (x ++ openRecord (set es c (some (u ++ ws)))) d₀ =
-        ap (λ (y : List ℕ). stored y (st .written) ws) (fr .octets)
-        ∙ stored-behind (x ++ openRecord es) ws d₀ (st .written) lw (omega arith)
-        ∙ ap (λ (y : List ℕ). written y d₀) (added-behind x es c u ws l bl g) in
+      ap (λ (y : List ℕ). stored y (st .written) ws) (fr .octets)
+      ∙ stored-behind (x ++ openRecord es) ws d₀ (st .written) lw (omega arith)
+      ∙ ap (λ (y : List ℕ). written y d₀) (added-behind x es c u ws l bl g) in
       let long : length (x ++ openRecord (set es c (some (u ++ ws)))) ≡ length (x ++ openRecord es) + length ws = added-long x es c u ws l bl g in
       let left : p .due ≡ suc (p .due - 1) = (let a = i .left in let z = t .due in omega arith) in
       let ef : dueForm st ≡ elementForm (formIn (openSlots hs cs k) c) = ap elementForm f in
@@ -319,8 +315,8 @@ module _ (st : Writing) (d d₀ : List ℕ) (hs cs : List Column) (rows : List R
         reached = rw (length-set es c new) (i .reached);
         blank = rw n (blank-set (suc c) c es new (omega arith) bl);
         fine = listing c (u ++ ws) n (rw (length-set es c new) l) (rw (set-twice es c new none) s) (getD-set-same es c new none l)
-          (rw ef (element-owed (formIn (openSlots hs cs k) c) (p .due - 1) u v (rw left at o) h (rw ef at (t .form))))
-          (octets-append u ws q (given-octets (dueForm st) v h (t .form))) f;
+            (rw ef (element-owed (formIn (openSlots hs cs k) c) (p .due - 1) u v (rw left at o) h (rw ef at (t .form))))
+            (octets-append u ws q (given-octets (dueForm st) v h (t .form))) f;
       })
 
   pub add-keeps : (v : Given) → Handed v → elementAt st d v ≡ clear → Inside (elementNext st v) (elementOctets st d v) d₀ hs cs rows (adding p (octetsFor (dueForm st) v))

@@ -1,43 +1,34 @@
 -- Opening and closing a record keeps the relation between a writing with its buffer and a draft.
-use Prim.Native.Nat.{ℕ, zero, suc, _+_, _-_, _*_, _/_, _%_, _≤_, _<_}
+use Prim.Native.Nat.{ℕ, suc, _+_, _-_, _*_, _/_, _%_, _≤_, _<_}
 use native.Mathlib.Omega.{arith}
 use mathlib.Core.Path.{_≡_, refl, sym, ap, ap₂, _∙_}
 use mathlib.Core.Bool.{Bool, true, false, cond}
-use mathlib.Core.Option.{Option, none, some}
+use mathlib.Core.Option.{none}
 use mathlib.Core.List.{List, [], _∷_, _++_, append-assoc, append-nil}
 use lib.Dec.{eqb}
-use borrow.Author.Tests.{ne-eqb, eq-eqb, eqb-false}
+use borrow.Author.Tests.{ne-eqb, eqb-false}
 use lib.Seq.{drop-at}
-use lib.ListN.{length, take, drop, getD, set, replicate, length-append, length-replicate, length-set, List·getD-append}
-use Rattle.octets.specs.Octets.{Octets}
+use lib.ListN.{length, drop, replicate, length-append, length-replicate, List·getD-append}
 use Rattle.octets.specs.Splice.{stored}
-use Rattle.octets.specs.Word.{leOf, length-word, length-leOf}
+use Rattle.octets.specs.Word.{leOf, length-word}
 use Rattle.answers.specs.Numbers.{outOfTurn, breaksRule}
-use Rattle.answers.specs.Verdict.{_then_, need, apart, unmet}
+use Rattle.answers.specs.Verdict.{need, apart, unmet}
 use Rattle.answers.specs.declared.Verdict.the-variants.{Clear as clear}
 use Rattle.presence.specs.Presence.{room, bitOf, bitAt, isSet}
-use Rattle.value.specs.Types.{formOf}
-use Rattle.table.specs.Table.{Column, SoundTable}
-use Rattle.table.specs.Found.{isFound, columnOf}
-use Rattle.table.specs.declared.Found.{Found}
-use Rattle.table.specs.declared.Found.the-variants.{At, Nothing}
+use Rattle.table.specs.Table.{Column}
 use Rattle.entry.specs.Present.{Row, presenceOf, presence-length, presence-bits}
-use Rattle.entry.specs.Record.{keysAt, keyed-row, Slot, SoundEntry, SoundRow, freed, valuesOf, innerOf, rowOctets, row-length}
+use Rattle.entry.specs.Record.{keysAt, keyed-row, Slot, SoundRow, freed, valuesOf, rowOctets}
 use Rattle.book.specs.Book.{slots-long, headSlots, rowSlots}
 use Rattle.book.specs.Rows.{rowsOctets, SoundRows}
 use Rattle.lookup.specs.Places.{rows-append}
 use Rattle.writing.specs.State.{columnsOf, withinOf}
-use Rattle.writing.specs.Column.{columnFor}
 use Rattle.writing.specs.declared.Writing.{Writing}
 use Rattle.framing.specs.Frame.{keysFrom, openSize, openAt, openNext, openOctets, closeAt, closeNext, closeOctets}
 use Rattle.framing.specs.Cases.{open-in, close-in}
-use Rattle.giving.specs.Give.{Given, Number, Truth, Octets as Whole, Count, formed, octetsFor, leftOf, formLeft, giveAt, giveNext, giveOctets, marked, elementForm, dueForm, elementAt, elementNext, elementOctets}
-use Rattle.giving.specs.Cases.{Turn, turn-in}
-use Rattle.drafting.specs.Lists.{written, written-long, stored-behind, stored-over, marked-over}
-use Rattle.drafting.specs.Open.{Blank, blankRow, blank-all, openRecord, blank-record, open-long, blank-set, values-given, values-added}
-use Rattle.drafting.specs.Spell.{Handed, Owed, given-owed, given-octets, element-owed, owed-done}
-use Rattle.drafting.specs.Start.{openColumns, seekTag, table-for, seek-found, keys-written, slot-form}
-use Rattle.drafting.specs.Draft.{Part, closedOctets, openSlots, noSlot, formIn, SoundClosed, Fine, whole, listing, Begun, Front, Between, Inside}
+use Rattle.drafting.specs.Lists.{written, written-long, stored-behind, stored-over}
+use Rattle.drafting.specs.Open.{blankRow, blank-all, openRecord, blank-record}
+use Rattle.drafting.specs.Start.{openColumns, keys-written}
+use Rattle.drafting.specs.Draft.{Part, closedOctets, openSlots, SoundClosed, whole, Between, Inside}
 use Rattle.begin.specs.Begin.{startOctets}
 use Rattle.drafting.specs.Turns.{columns-open}
 use Rattle.drafting.specs.Gives.{fine-whole}
@@ -220,7 +211,7 @@ module _ (st : Writing) (d d₀ : List ℕ) (hs cs : List Column) (rows : List R
       let m = length-append f (openRecord es) in
       let size : st .written - st .start ≡ length (openRecord es) = (let a = fr .length-is in let c = i .start in omega arith) in
       let s : stored d (st .start) (leOf 4 (st .written - st .start)) ≡ written (f ++ rowOctets es) d₀ =
-        ap₂ (λ (x : List ℕ) (n : ℕ). stored x (st .start) (leOf 4 n)) (fr .octets) size ∙ close-octets f d₀ es (st .start) (i .start) in
+      ap₂ (λ (x : List ℕ) (n : ℕ). stored x (st .start) (leOf 4 n)) (fr .octets) size ∙ close-octets f d₀ es (st .start) (i .start) in
       let g : closedOctets hs cs (rows ++ (es ∷ [])) ≡ f ++ rowOctets es = rows-snoc hs cs rows es in
       let same : length (f ++ rowOctets es) ≡ length (f ++ openRecord es) = length-append f (rowOctets es) ∙ ap (λ (n : ℕ). length f + n) (row-open es) ∙ sym m in
       let n : length (rows ++ (es ∷ [])) ≡ length rows + 1 = length-append rows (es ∷ []) in

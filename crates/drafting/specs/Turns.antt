@@ -1,21 +1,21 @@
 -- A state that stands for a draft is taken up by the next call: so out of turn is answered only where the draft says that it is not the call's turn. And the
 -- column of a tag is the draft's own.
-use Prim.Native.Nat.{ℕ, _+_, _-_, _*_, _≤_, _<_}
+use Prim.Native.Nat.{ℕ, _+_, _-_, _*_, _≤_}
 use native.Mathlib.Omega.{arith}
 use mathlib.Core.Path.{_≡_, refl, sym, ap, ap₂, _∙_}
 use mathlib.Core.Bool.{Bool, true, false, cond}
-use mathlib.Core.List.{List, [], _∷_, _++_, append-assoc}
+use mathlib.Core.List.{List, _++_, append-assoc}
 use lib.Dec.{eqb}
 use lib.ListN.{length, drop, length-append}
 use borrow.Author.Tests.{eq-eqb, ne-eqb, le-ltb}
 use Rattle.answers.specs.Numbers.{mostOctets}
 use Rattle.presence.specs.Presence.{room}
-use Rattle.table.specs.Table.{Column, SoundTable}
+use Rattle.table.specs.Table.{Column}
 use Rattle.table.specs.Columns.{tagsOf}
 use Rattle.entry.specs.Present.{Row}
 use Rattle.book.specs.Rows.{rowsOctets}
 use Rattle.writing.specs.State.{saneOf, idleOf, framedOf, withinOf, columnsOf, tablesEnd, Sane, Within}
-use Rattle.writing.specs.Column.{columnFor, tableFor}
+use Rattle.writing.specs.Column.{columnFor}
 use Rattle.writing.specs.declared.Writing.{Writing}
 use Rattle.begin.specs.Begin.{startOctets}
 use Rattle.drafting.specs.Lists.{written, written-long}

@@ -1,11 +1,11 @@
 -- Demand 2, writing: whatever calls follow an accepted begin, an accepted finish leaves the octets of the book that the accepted calls spelled. It may be
 -- written, so it is judged good and reads back as that book. Out of turn is answered exactly where it is not the call's turn.
-use Prim.Native.Nat.{ℕ, zero, suc, _+_, _-_, _*_, _%_, _≤_, _<_}
+use Prim.Native.Nat.{ℕ, zero, _+_, _-_, _*_, _%_, _≤_}
 use native.Mathlib.Omega.{arith}
 use mathlib.Core.Path.{_≡_, refl, sym, ap, ap₂, _∙_}
 use mathlib.Core.Bool.{Bool, true, false, cond, not}
 use mathlib.Core.Option.{Option, none, some}
-use mathlib.Core.List.{List, [], _∷_, _++_}
+use mathlib.Core.List.{List, [], _∷_}
 use lib.Dec.{eqb, ltb, leb}
 use lib.ListN.{length, take, drop}
 use lib.Seq.{take-at}
@@ -14,29 +14,25 @@ use Rattle.answers.specs.declared.Verdict.{Verdict}
 use Rattle.answers.specs.declared.Verdict.the-variants.{Clear as clear, Refused}
 use Rattle.answers.specs.Verdict.{_then_, need, refused, apart, unmet, no-clear}
 use Rattle.value.specs.Types.{formOf}
-use Rattle.table.specs.Table.{Column}
-use Rattle.table.specs.Columns.{tagsOf}
-use Rattle.table.specs.Found.{columnOf}
-use Rattle.entry.specs.Present.{Row}
 use Rattle.entry.specs.Record.{Slot}
 use Rattle.book.specs.Book.{Book, Sound, bookOctets, judge}
+use Rattle.book.specs.Exact.{book-only}
 use Rattle.lookup.specs.Look.{lookupOf}
 use Rattle.lookup.specs.Laws.{bookLook, look-is}
 use Rattle.lookup.specs.declared.Which.{Which}
 use Rattle.writing.specs.State.{roomAt}
 use Rattle.writing.specs.declared.Writing.{Writing}
-use Rattle.writing.specs.declared.Outcome.{Outcome}
 use Rattle.writing.specs.declared.Written.the-variants as written
-use Rattle.framing.specs.Frame.{openSize, keysFrom, openOutcome, closeOutcome, finishAt, finishOutcome, finishOctets}
-use Rattle.giving.specs.Give.{Given, formed, octetsFor, leftOf, elementForm, dueForm, giveAt, giveNext, giveOutcome, giveOctets, elementAt, elementNext, elementOutcome, elementOctets}
-use Rattle.begin.specs.Begin.{beginAt, beginNext, beginOutcome, beginOctets, columnsFrom}
-use Rattle.drafting.specs.Start.{Tags, openColumns, seekTag}
-use Rattle.drafting.specs.Draft.{Part, Draft, openSlots, formIn, Fine, whole, listing, Between, Inside, StandsBy, Stands}
+use Rattle.framing.specs.Frame.{openSize, keysFrom, openOutcome, closeOutcome, finishAt, finishOctets}
+use Rattle.giving.specs.Give.{formed, octetsFor, elementForm, dueForm, giveOutcome, elementOutcome}
+use Rattle.begin.specs.Begin.{beginAt, beginNext, beginOctets, columnsFrom}
+use Rattle.drafting.specs.Start.{Tags}
+use Rattle.drafting.specs.Draft.{Part, Draft, openSlots, formIn, Fine, whole, listing, Inside, StandsBy, Stands}
 use Rattle.drafting.specs.Turns.{idle-none, between-idle, column-is}
-use Rattle.drafting.specs.Gives.{giving, adding, take-in, added-in, give-keeps, add-keeps}
+use Rattle.drafting.specs.Gives.{take-in, added-in, give-keeps, add-keeps}
 use Rattle.drafting.specs.Keeps.{open-keeps, close-keeps}
 use Rattle.drafting.specs.Finish.{begin-keeps, bookFrom, Finished, finish-is}
-use Rattle.drafting.specs.Run.{Call, Open, Close, Give, Add, Fits, verdictOf, outcomeOf, octetsAfter, given, added, refused-leaves, told, turn, beyond, inside-started, turn-is}
+use Rattle.drafting.specs.Run.{Call, Open, Close, Give, Add, Fits, verdictOf, outcomeOf, octetsAfter, refused-leaves, told, turn, beyond, inside-started, turn-is}
 
 -- ---- 15 exactly out of turn
 
@@ -208,13 +204,14 @@ written-book ht hf ts fs d cs th ta f e q =
 
 -- ---- and it reads back
 
--- m octets are answered; they are the book's
+-- m octets are answered; they are the book's, and no other book's
 pub record ReadsBack (d : List ℕ) (m : ℕ) (b : Book) : Type 0 where
   pub octets : take m d ≡ bookOctets b
   pub good : judge (take m d) ≡ clear
+  pub only : (c : Book) → Sound c → take m d ≡ bookOctets c → b ≡ c
   pub values : (which : Which) (t : ℕ) → lookupOf (take m d) which t ≡ bookLook b which t
 
 pub written-reads-back : (st : Writing) (d d₀ : List ℕ) (b : Book) → Finished st d d₀ b → ReadsBack d (st .written) b
 written-reads-back st d d₀ b f =
     let e : take (st .written) d ≡ bookOctets b = ap₂ (λ (n : ℕ) (l : List ℕ). take n l) (f .long) (f .octets) ∙ take-at (bookOctets b) (drop (length (bookOctets b)) d₀) (length (bookOctets b)) refl in
-    record { octets = e; good = ap judge e ∙ f .good; values = λ which t. ap (λ (x : List ℕ). lookupOf x which t) e ∙ look-is b (f .sound) t which }
+    record { octets = e; good = ap judge e ∙ f .good; only = λ c s q. book-only (take (st .written) d) b c (f .sound) s e q; values = λ which t. ap (λ (x : List ℕ). lookupOf x which t) e ∙ look-is b (f .sound) t which }
