@@ -22,7 +22,7 @@ same-length : tie.Need-same-length
 same-length c = search needs
 
 returns : tie.Need-returns
-returns c = search mark-part
+returns c = mark-part (c .before .before .before .before .before .args .buf .now) _ (c .before .before .before .before .before .args .at) (c .before .before .before .before .before .args .column) (c .before .before .before .before .before .pre) (c .before .before .set-bit .ensures)
 
 pub mark-spec : {M : Type 1} → statement M
 mark-spec =
