@@ -14,18 +14,17 @@ use Rattle.table.specs.declared.Found.{Found}
 use Rattle.table.specs.declared.Found.the-variants.{At, Nothing}
 use Rattle.entry.specs.Present.{Row}
 use Rattle.entry.specs.Record.{row-long}
-use Rattle.book.specs.Book.{Book, Sound, slots-long, headSlots, rowSlots}
-use Rattle.lookup.specs.Places.{rowAt, sound-at}
+use Rattle.book.specs.Book.{Book}
 use Rattle.lookup.specs.Look.{columnIn, stretchOf}
-use Rattle.lookup.specs.Laws.{column-tag}
+use Rattle.lookup.specs.Laws.{column-in, column-tag}
 use Rattle.lookup.specs.Tagged.{columnsFor, rowFor}
 use Rattle.lookup.specs.declared.Which.{Which}
-use Rattle.lookup.specs.declared.Which.the-variants.{Header, Number}
 use Rattle.editing.specs.Elsewhere.{set-columns, set-heads, set-cols, set-there, row-named, row-other}
-use Rattle.editing.specs.Done.{There, setTo}
+use Rattle.editing.specs.Done.{There, slotsUnder, setTo}
 use Rattle.correcting.specs.Correct.{hasRecord, setOctets}
-use Rattle.corrected.specs.Named.{named-in}
-use Rattle.corrected.specs.Done.{Corrects, SetDone}
+use Rattle.corrected.specs.Named.{named-in, row-sound, slots-reach}
+use Rattle.corrected.specs.Call.{BookIn, Corrects}
+use Rattle.corrected.specs.Set.{SetMay, SetDone}
 use Rattle.corrected.specs.Handed.{Handed, handedOf, octetsOf, stretch-handed, entryOn, handedIn, rowHanded, handed-is}
 use Rattle.corrected.specs.Alike.{metaOctets, Alike, meta-alike, handed-alike, alike}
 
@@ -39,16 +38,12 @@ other-handed cs es e t u c q n = go (columnIn u (tagsOf cs)) refl
         let y : a ≡ c → ⊥ = λ w. n (sym (column-tag u (tagsOf cs) a z) ∙ ap (λ (i : ℕ). getD (tagsOf cs) i 0) w ∙ column-tag t (tagsOf cs) c q) in
         ap entryOn (getD-set-other es c a e none y)
 
-row-reach : (b : Book) → Sound b → (w : Which) → There b w → length (rowFor b w) ≡ length (columnsFor b w)
-row-reach b s Header h = row-long (headSlots (b .heads)) (b .head) (s .head) ∙ slots-long _ (b .heads)
-row-reach b s (Number k) h = row-long (rowSlots (b .cols)) (rowAt b k) (sound-at (rowSlots (b .cols)) (b .rows) k (s .rows) h) ∙ slots-long _ (b .cols)
-
 module _ (d : List ℕ) (len : ℕ) (which : Which) (t : ℕ) (e : Option (List ℕ)) (m : ℕ) (x : SetDone d len which t e m) where
   abbrev b : Book
-  b = x .book
+  b = x .may .on .book
 
   abbrev c : Book
-  c = setTo which (x .column) e (x .book)
+  c = setTo which (x .may .column) e (x .may .on .book)
 
   abbrev old : List ℕ
   old = take len d
@@ -58,24 +53,24 @@ module _ (d : List ℕ) (len : ℕ) (which : Which) (t : ℕ) (e : Option (List 
 
   -- both tables are the old ones, octet for octet
   pub set-meta : metaOctets new ≡ metaOctets old
-  set-meta = meta-alike new old c b (x .corrects .comes) (x .corrects .reads) (x .corrects .again) (x .corrects .sound) (set-heads which (x .column) e b) (set-cols which (x .column) e b)
+  set-meta = meta-alike new old c b (x .corrects .comes) (x .corrects .reads) (x .corrects .again) (x .corrects .sound) (set-heads which (x .may .column) e b) (set-cols which (x .may .column) e b)
 
   -- every other record is as before, and so is every lookup in it
   pub set-elsewhere : (w : Which) → hasRecord old w ≡ true → (w ≡ which → ⊥) → Alike new w old w
   set-elsewhere w h n =
       let l : There b w = named-in old b (x .corrects .reads) (x .corrects .sound) w h in
-      alike new old c b (x .corrects .comes) (x .corrects .reads) (x .corrects .again) (x .corrects .sound) w w (set-there which (x .column) e b (x .named) w l) l
-      (set-columns which (x .column) e b w) (row-other which (x .column) e b (x .named) w n)
+      alike new old c b (x .corrects .comes) (x .corrects .reads) (x .corrects .again) (x .corrects .sound) w w (set-there which (x .may .column) e b (x .may .named) w l) l
+      (set-columns which (x .may .column) e b w) (row-other which (x .may .column) e b (x .may .named) w n)
 
   named-again : There c which
-  named-again = set-there which (x .column) e b (x .named) which (x .named)
+  named-again = set-there which (x .may .column) e b (x .may .named) which (x .may .named)
 
   -- in the named record a lookup with any other tag hands back what it did
   pub set-other-tag : (u : ℕ) → (u ≡ t → ⊥) → handedOf new which u ≡ handedOf old which u
   set-other-tag u n =
-      handed-alike new old c b (x .corrects .comes) (x .corrects .reads) (x .corrects .again) (x .corrects .sound) which which u named-again (x .named)
-      (ap₂ (λ (cs : List Column) (es : Row). rowHanded cs es u) (set-columns which (x .column) e b which) (row-named which (x .column) e b (x .named))
-      ∙ other-handed (columnsFor b which) (rowFor b which) e t u (x .column) (x .found) n)
+      handed-alike new old c b (x .corrects .comes) (x .corrects .reads) (x .corrects .again) (x .corrects .sound) which which u named-again (x .may .named)
+      (ap₂ (λ (cs : List Column) (es : Row). rowHanded cs es u) (set-columns which (x .may .column) e b which) (row-named which (x .may .column) e b (x .may .named))
+      ∙ other-handed (columnsFor b which) (rowFor b which) e t u (x .may .column) (x .may .found) n)
 
   pub set-other-stretch : (u : ℕ) → (u ≡ t → ⊥) → stretchOf new which u ≡ stretchOf old which u
   set-other-stretch u n = stretch-handed new which u ∙ ap octetsOf (set-other-tag u n) ∙ sym (stretch-handed old which u)
@@ -83,9 +78,9 @@ module _ (d : List ℕ) (len : ℕ) (which : Which) (t : ℕ) (e : Option (List 
   -- under the tag itself stands what was offered
   pub set-value : handedOf new which t ≡ entryOn e
   set-value =
-      let l = row-reach b (x .corrects .sound) which (x .named) in
-      let h = x .there in
+      let l = row-long (slotsUnder b which) (rowFor b which) (row-sound b (x .corrects .sound) which (x .may .named)) ∙ slots-reach b which in
+      let h = column-in t (columnsFor b which) (x .may .column) (x .may .found) in
       ap (λ (z : List ℕ). handedOf z which t) (x .corrects .comes) ∙ handed-is c (x .corrects .again) which t named-again
-      ∙ ap₂ (λ (cs : List Column) (es : Row). rowHanded cs es t) (set-columns which (x .column) e b which) (row-named which (x .column) e b (x .named))
-      ∙ ap (λ (f : Found). handedIn f (set (rowFor b which) (x .column) e)) (x .found)
-      ∙ ap entryOn (getD-set-same (rowFor b which) (x .column) e none (omega arith))
+      ∙ ap₂ (λ (cs : List Column) (es : Row). rowHanded cs es t) (set-columns which (x .may .column) e b which) (row-named which (x .may .column) e b (x .may .named))
+      ∙ ap (λ (f : Found). handedIn f (set (rowFor b which) (x .may .column) e)) (x .may .found)
+      ∙ ap entryOn (getD-set-same (rowFor b which) (x .may .column) e none (omega arith))

@@ -18,11 +18,12 @@ use Rattle.table.specs.Columns.{tagsOf}
 use Rattle.table.specs.declared.Found.{Found}
 use Rattle.table.specs.declared.Found.the-variants.{At, Nothing}
 use Rattle.table.specs.Found.{isFound, columnOf}
-use Rattle.entry.specs.Record.{Slot, SoundEntry}
-use Rattle.book.specs.Book.{Book, Sound, bookOctets, headsIn, colsIn, countIn}
+use Rattle.entry.specs.Record.{Slot, SoundEntry, SoundRow}
+use Rattle.book.specs.Book.{Book, Sound, slots-long, rowSlots, bookOctets, headsIn, colsIn, countIn}
 use Rattle.book.specs.Whole.{heads-in, cols-in, body-in, count-in}
+use Rattle.lookup.specs.Places.{sound-at}
 use Rattle.lookup.specs.Look.{columnIn}
-use Rattle.lookup.specs.Tagged.{columnsFor}
+use Rattle.lookup.specs.Tagged.{columnsFor, rowFor}
 use Rattle.lookup.specs.declared.Which.{Which}
 use Rattle.lookup.specs.declared.Which.the-variants.{Header, Number}
 use Rattle.editing.specs.Put.{slotsFor}
@@ -53,6 +54,15 @@ module _ (xs : List ℕ) (b : Book) (r : xs ≡ bookOctets b) (s : Sound b) wher
 
   pub slot-for : (which : Which) (c : ℕ) → slotFor xs which c ≡ getD (slotsUnder b which) c noSlot
   slot-for which c = ap (λ (z : List ℕ). getD (slotsFor z which) c noSlot) r ∙ ap (λ (l : List Slot). getD l c noSlot) (slots-in b s which)
+
+-- a record of a sound book is a sound row under its columns
+pub row-sound : (b : Book) → Sound b → (w : Which) → There b w → SoundRow (slotsUnder b w) (rowFor b w)
+row-sound b s Header h = s .head
+row-sound b s (Number k) h = sound-at (rowSlots (b .cols)) (b .rows) k (s .rows) h
+
+pub slots-reach : (b : Book) (w : Which) → length (slotsUnder b w) ≡ length (columnsFor b w)
+slots-reach b Header = slots-long false (b .heads)
+slots-reach b (Number k) = slots-long true (b .cols)
 
 pub found-is : (f : Found) → isFound f ≡ true → f ≡ At (columnOf f)
 found-is (At c) h = refl

@@ -18,7 +18,9 @@ use Rattle.editing.specs.Done.{There}
 use Rattle.editing.specs.Elsewhere.{edit-heads, edit-cols, edit-head, row-before, there-before, row-new, there-new, row-behind, there-behind}
 use Rattle.correcting.specs.Correct.{insertOctets, deleteOctets}
 use Rattle.corrected.specs.Named.{count-of}
-use Rattle.corrected.specs.Done.{Corrects, InsertDone, DeleteDone}
+use Rattle.corrected.specs.Call.{BookIn, Corrects}
+use Rattle.corrected.specs.Insert.{InsertMay, InsertDone}
+use Rattle.corrected.specs.Delete.{DeleteMay, DeleteDone}
 use Rattle.corrected.specs.Alike.{recordOctets, record-is, metaOctets, Alike, meta-alike, alike}
 
 -- ---- the a records from k on replaced by others
@@ -62,30 +64,30 @@ module _ (d : List ℕ) (len k : ℕ) (offered : List ℕ) (m : ℕ) (x : Insert
   abbrev inserted : List ℕ
   inserted = insertOctets d len k offered
 
-  behind-last : k + 0 ≤ length (x .book .rows)
-  behind-last = rw add-zero (x .within)
+  behind-last : k + 0 ≤ length (x .may .on .book .rows)
+  behind-last = rw add-zero (x .may .within)
 
   -- both tables are the old ones, octet for octet
   pub insert-meta : metaOctets (take m inserted) ≡ metaOctets (take len d)
-  insert-meta = meta-kept d len inserted m (x .book) k 0 (x .row ∷ []) (x .corrects) behind-last
+  insert-meta = meta-kept d len inserted m (x .may .on .book) k 0 (x .may .row ∷ []) (x .corrects) behind-last
 
   pub insert-header : Alike (take m inserted) Header (take len d) Header
-  insert-header = header-kept d len inserted m (x .book) k 0 (x .row ∷ []) (x .corrects) behind-last
+  insert-header = header-kept d len inserted m (x .may .on .book) k 0 (x .may .row ∷ []) (x .corrects) behind-last
 
   -- a record before the new one keeps its number
   pub insert-before : (j : ℕ) → j < k → Alike (take m inserted) (Number j) (take len d) (Number j)
-  insert-before = before-kept d len inserted m (x .book) k 0 (x .row ∷ []) (x .corrects) behind-last
+  insert-before = before-kept d len inserted m (x .may .on .book) k 0 (x .may .row ∷ []) (x .corrects) behind-last
 
   -- a record behind it has the next number
   pub insert-behind : (j : ℕ) → k ≤ j → j < countIn (take len d) → Alike (take m inserted) (Number (j + 1)) (take len d) (Number j)
-  insert-behind j h l = behind-kept d len inserted m (x .book) k 0 (x .row ∷ []) (x .corrects) behind-last (j + 1) j (omega arith) (omega arith) l
+  insert-behind j h l = behind-kept d len inserted m (x .may .on .book) k 0 (x .may .row ∷ []) (x .corrects) behind-last (j + 1) j (omega arith) (omega arith) l
 
   -- record k is the one that was offered
   pub insert-there : recordOctets (take m inserted) (Number k) ≡ offered
   insert-there =
       let z : k + 0 ≡ k = add-zero k in
-      rw z at (new-there d len inserted m (x .book) k 0 (x .row ∷ []) (x .corrects) behind-last 0 (omega arith))
-      ∙ ap rowOctets (rw z at (row-new k 0 (x .row ∷ []) (x .book) behind-last 0 (omega arith))) ∙ sym (x .offered)
+      rw z at (new-there d len inserted m (x .may .on .book) k 0 (x .may .row ∷ []) (x .corrects) behind-last 0 (omega arith))
+      ∙ ap rowOctets (rw z at (row-new k 0 (x .may .row ∷ []) (x .may .on .book) behind-last 0 (omega arith))) ∙ sym (x .may .offered)
 
 -- ---- delete
 
@@ -93,20 +95,20 @@ module _ (d : List ℕ) (len k m : ℕ) (x : DeleteDone d len k m) where
   abbrev deleted : List ℕ
   deleted = deleteOctets d len k
 
-  one-there : k + 1 ≤ length (x .book .rows)
-  one-there = rw add-one (x .within)
+  one-there : k + 1 ≤ length (x .may .on .book .rows)
+  one-there = rw add-one (x .may .within)
 
   -- both tables are the old ones, octet for octet
   pub delete-meta : metaOctets (take m deleted) ≡ metaOctets (take len d)
-  delete-meta = meta-kept d len deleted m (x .book) k 1 [] (x .corrects) one-there
+  delete-meta = meta-kept d len deleted m (x .may .on .book) k 1 [] (x .corrects) one-there
 
   pub delete-header : Alike (take m deleted) Header (take len d) Header
-  delete-header = header-kept d len deleted m (x .book) k 1 [] (x .corrects) one-there
+  delete-header = header-kept d len deleted m (x .may .on .book) k 1 [] (x .corrects) one-there
 
   -- a record before the one taken out keeps its number
   pub delete-before : (j : ℕ) → j < k → Alike (take m deleted) (Number j) (take len d) (Number j)
-  delete-before = before-kept d len deleted m (x .book) k 1 [] (x .corrects) one-there
+  delete-before = before-kept d len deleted m (x .may .on .book) k 1 [] (x .corrects) one-there
 
   -- a record behind it has the number before
   pub delete-behind : (j : ℕ) → k < j → j < countIn (take len d) → Alike (take m deleted) (Number (j - 1)) (take len d) (Number j)
-  delete-behind j h l = behind-kept d len deleted m (x .book) k 1 [] (x .corrects) one-there (j - 1) j (omega arith) (omega arith) l
+  delete-behind j h l = behind-kept d len deleted m (x .may .on .book) k 1 [] (x .corrects) one-there (j - 1) j (omega arith) (omega arith) l
