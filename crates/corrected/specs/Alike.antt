@@ -1,8 +1,8 @@
 -- A record of one book that is a record of another: the same octets, and every lookup hands back the same. And the metadata of a book.
-use Prim.Native.Nat.{ℕ, suc, _+_, _-_, _≤_, _<_}
+use Prim.Native.Nat.{ℕ, suc, _+_, _-_, _≤_}
 use native.Mathlib.Omega.{arith}
-use mathlib.Core.Path.{_≡_, refl, sym, ap, ap₂, _∙_}
-use mathlib.Core.List.{List, [], _∷_, _++_}
+use mathlib.Core.Path.{_≡_, sym, ap, ap₂, _∙_}
+use mathlib.Core.List.{List, _++_}
 use lib.ListN.{length, take, drop}
 use lib.Seq.{take-append-seam}
 use Rattle.octets.specs.Word.{wordOf}
@@ -20,7 +20,7 @@ use Rattle.lookup.specs.declared.Which.{Which}
 use Rattle.lookup.specs.declared.Which.the-variants.{Header, Number}
 use Rattle.editing.specs.Put.{startFor}
 use Rattle.editing.specs.Done.{There}
-use Rattle.corrected.specs.Handed.{Handed, handedOf, octetsOf, stretch-handed, rowHanded, handed-is}
+use Rattle.corrected.specs.Handed.{handedOf, octetsOf, stretch-handed, rowHanded, handed-is}
 
 -- ---- the octets of a record: those from its place on, as many as its size field says
 

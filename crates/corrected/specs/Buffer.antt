@@ -1,8 +1,8 @@
 -- The buffer behind a call that is done: the new book in front, zeros from its length up to the old one's, and past both the octets that were lent.
 use Prim.Native.Nat.{ℕ, _+_, _-_, _≤_, _<_}
 use native.Mathlib.Omega.{arith}
-use mathlib.Core.Path.{_≡_, refl, sym, ap, _∙_}
-use mathlib.Core.List.{List, [], _++_}
+use mathlib.Core.Path.{_≡_, _∙_}
+use mathlib.Core.List.{List, _++_}
 use lib.ListN.{length, take, drop, replicate, length-append, length-drop, length-replicate, getD-replicate, take-append-drop, List·getD-append}
 use lib.Seq.{take-append-seam, length-take-le, getD-append-add, getD-drop}
 use Rattle.octets.specs.Octets.{octetAt}

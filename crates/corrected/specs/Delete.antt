@@ -1,7 +1,7 @@
 -- Deleting record k: demand 2, the call is done exactly when what it asks holds; demand 3, it leaves the corrected book.
-use Prim.Native.Nat.{ℕ, _+_, _≤_, _<_}
+use Prim.Native.Nat.{ℕ, _<_}
 use native.Mathlib.Omega.{arith}
-use mathlib.Core.Path.{_≡_, refl, sym, ap, _∙_}
+use mathlib.Core.Path.{_≡_, ap, _∙_}
 use mathlib.Core.List.{List, []}
 use lib.Dec.{ltb}
 use lib.ListN.{length, take}
@@ -32,6 +32,7 @@ module _ (d : List ℕ) (len k : ℕ) where
       let c : countIn (take len d) ≡ length (x .book .rows) = count-of (take len d) (x .book) (x .reads) (x .sound) in
       record { on = x; within = rw c at h; others = rw c at g }
 
+  -- answered with a new length: what is asked holds
   pub delete-may : Octets d → (m : ℕ) → deleteAnswer d len k ≡ corrected.Done m → DeleteMay d len k
   unfolding deleteAnswer deleteAt
   delete-may od m h =
@@ -56,6 +57,7 @@ module _ (d : List ℕ) (len k : ℕ) where
         both (book-good d len (x .on))
         (both (met outOfTurn 0 (lt-ltb k (countIn (take len d)) (rw c (x .within)))) (met breaksRule 0 (lt-ltb 1 (countIn (take len d)) (rw c (x .others)))))
 
+    -- what is asked holds: answered with the corrected book's length
     pub delete-answered : deleteAnswer d len k ≡ corrected.Done (length (bookOctets (edit k 1 [] b)))
     unfolding deleteAnswer
     delete-answered = done-answered (deleteAt d len k) (length (deleteBook d len k)) _ delete-clear (ap length delete-book)

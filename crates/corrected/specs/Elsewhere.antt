@@ -1,12 +1,12 @@
 -- Demand 3, a value set or cleared changes nothing elsewhere: both tables stand as before, every other record has its octets, and a lookup in it hands back
 -- what it did; in the named record every other column's value is the old one. Under the tag itself stands what was offered.
-use Prim.Native.Nat.{ℕ, _≤_, _<_}
+use Prim.Native.Nat.{ℕ}
 use native.Mathlib.Omega.{arith}
 use mathlib.Core.Path.{_≡_, refl, sym, ap, ap₂, _∙_}
 use mathlib.Core.Bool.{true}
 use mathlib.Core.Option.{Option, none}
 use mathlib.Core.List.{List}
-use lib.ListN.{length, getD, take, set}
+use lib.ListN.{getD, take, set}
 use lib.Seq.{getD-set-same, getD-set-other}
 use Rattle.table.specs.Table.{Column}
 use Rattle.table.specs.Columns.{tagsOf}
@@ -14,18 +14,17 @@ use Rattle.table.specs.declared.Found.{Found}
 use Rattle.table.specs.declared.Found.the-variants.{At, Nothing}
 use Rattle.entry.specs.Present.{Row}
 use Rattle.entry.specs.Record.{row-long}
-use Rattle.book.specs.Book.{Book}
+use Rattle.book.specs.Book.{Book, countIn}
 use Rattle.lookup.specs.Look.{columnIn, stretchOf}
 use Rattle.lookup.specs.Laws.{column-in, column-tag}
 use Rattle.lookup.specs.Tagged.{columnsFor, rowFor}
 use Rattle.lookup.specs.declared.Which.{Which}
-use Rattle.editing.specs.Elsewhere.{set-columns, set-heads, set-cols, set-there, row-named, row-other}
+use Rattle.editing.specs.Elsewhere.{set-columns, set-heads, set-cols, set-many, set-there, row-named, row-other}
 use Rattle.editing.specs.Done.{There, slotsUnder, setTo}
 use Rattle.correcting.specs.Correct.{hasRecord, setOctets}
-use Rattle.corrected.specs.Named.{named-in, row-sound, slots-reach}
-use Rattle.corrected.specs.Call.{BookIn, Corrects}
-use Rattle.corrected.specs.Set.{SetMay, SetDone}
-use Rattle.corrected.specs.Handed.{Handed, handedOf, octetsOf, stretch-handed, entryOn, handedIn, rowHanded, handed-is}
+use Rattle.corrected.specs.Named.{count-of, named-in, row-sound, slots-reach}
+use Rattle.corrected.specs.Set.{SetDone}
+use Rattle.corrected.specs.Handed.{handedOf, octetsOf, stretch-handed, entryOn, handedIn, rowHanded, handed-is}
 use Rattle.corrected.specs.Alike.{metaOctets, Alike, meta-alike, handed-alike, alike}
 
 -- a column of another tag is another column
@@ -51,9 +50,12 @@ module _ (d : List ℕ) (len : ℕ) (which : Which) (t : ℕ) (e : Option (List 
   abbrev new : List ℕ
   new = take m (setOctets d len which t e)
 
-  -- both tables are the old ones, octet for octet
+  -- both tables are the old ones, octet for octet, unused flag bits too
   pub set-meta : metaOctets new ≡ metaOctets old
   set-meta = meta-alike new old c b (x .corrects .comes) (x .corrects .reads) (x .corrects .again) (x .corrects .sound) (set-heads which (x .may .column) e b) (set-cols which (x .may .column) e b)
+
+  pub set-count : countIn new ≡ countIn old
+  set-count = count-of new c (x .corrects .comes) (x .corrects .again) ∙ set-many which (x .may .column) e b (x .may .named) ∙ sym (count-of old b (x .corrects .reads) (x .corrects .sound))
 
   -- every other record is as before, and so is every lookup in it
   pub set-elsewhere : (w : Which) → hasRecord old w ≡ true → (w ≡ which → ⊥) → Alike new w old w

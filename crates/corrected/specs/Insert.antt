@@ -83,6 +83,7 @@ module _ (d : List ℕ) (len k : ℕ) (new : List ℕ) where
         room = omega arith;
       }
 
+  -- answered with a new length: what is asked holds
   pub insert-may : Octets d → Octets new → (m : ℕ) → insertAnswer d len k new ≡ corrected.Done m → InsertMay d len k new
   unfolding insertAnswer insertAt insertBook
   insert-may od o m h =
@@ -119,6 +120,7 @@ module _ (d : List ℕ) (len k : ℕ) (new : List ℕ) where
         (both (met breaksRule 0 (lt-ltb (countIn (take len d)) mostRecords (rw c (x .few))))
         (room-good (length (insertBook d len k new)) d (rw w (x .short)) (rw w (x .room))))))
 
+    -- what is asked holds: answered with the corrected book's length
     pub insert-answered : insertAnswer d len k new ≡ corrected.Done (length (bookOctets (edit k 0 (x .row ∷ []) b)))
     unfolding insertAnswer
     insert-answered = done-answered (insertAt d len k new) (length (insertBook d len k new)) _ insert-clear (ap length insert-book)

@@ -1,11 +1,10 @@
 -- What a call names and offers, read from the octets of a sound book: its records, its columns by whole tag, what their values may be.
-use Prim.Native.Nat.{ℕ, _<_}
+use Prim.Native.Nat.{ℕ}
 use native.Mathlib.Omega.{arith}
 use mathlib.Core.Path.{_≡_, refl, sym, ap, _∙_}
-use mathlib.Core.Bool.{Bool, true, false}
+use mathlib.Core.Bool.{true, false}
 use mathlib.Core.Option.{Option, none, some}
 use mathlib.Core.List.{List, [], append-nil}
-use lib.Dec.{eqb, ltb}
 use lib.ListN.{length, getD, drop}
 use borrow.Author.Tests.{lt-ltb, ltb-true, eqb-true, eq-eqb}
 use Rattle.octets.specs.Octets.{Octets}

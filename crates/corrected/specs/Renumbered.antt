@@ -4,7 +4,7 @@ use Prim.Native.Nat.{ℕ, _+_, _-_, _≤_, _<_}
 use native.Mathlib.Nat.{add-zero}
 use native.Mathlib.Numerals.{add-one}
 use native.Mathlib.Omega.{arith}
-use mathlib.Core.Path.{_≡_, refl, sym, ap, _∙_}
+use mathlib.Core.Path.{_≡_, sym, ap, _∙_}
 use mathlib.Core.List.{List, [], _∷_}
 use lib.ListN.{length, take}
 use Rattle.entry.specs.Present.{Row}
@@ -15,12 +15,12 @@ use Rattle.lookup.specs.declared.Which.{Which}
 use Rattle.lookup.specs.declared.Which.the-variants.{Header, Number}
 use Rattle.editing.specs.Edit.{edit}
 use Rattle.editing.specs.Done.{There}
-use Rattle.editing.specs.Elsewhere.{edit-heads, edit-cols, edit-head, row-before, there-before, row-new, there-new, row-behind, there-behind}
+use Rattle.editing.specs.Elsewhere.{edit-heads, edit-cols, edit-head, edit-many, row-before, there-before, row-new, there-new, row-behind, there-behind}
 use Rattle.correcting.specs.Correct.{insertOctets, deleteOctets}
 use Rattle.corrected.specs.Named.{count-of}
-use Rattle.corrected.specs.Call.{BookIn, Corrects}
-use Rattle.corrected.specs.Insert.{InsertMay, InsertDone}
-use Rattle.corrected.specs.Delete.{DeleteMay, DeleteDone}
+use Rattle.corrected.specs.Call.{Corrects}
+use Rattle.corrected.specs.Insert.{InsertDone}
+use Rattle.corrected.specs.Delete.{DeleteDone}
 use Rattle.corrected.specs.Alike.{recordOctets, record-is, metaOctets, Alike, meta-alike, alike}
 
 -- ---- the a records from k on replaced by others
@@ -37,6 +37,13 @@ module _ (d : List ℕ) (len : ℕ) (o : List ℕ) (m : ℕ) (b : Book) (k a : �
 
   meta-kept : metaOctets new ≡ metaOctets old
   meta-kept = meta-alike new old c b (x .comes) (x .reads) (x .again) (x .sound) (edit-heads k a news b) (edit-cols k a news b)
+
+  count-kept : countIn new + a ≡ countIn old + length news
+  count-kept =
+      let n = count-of new c (x .comes) (x .again) in
+      let l = count-of old b (x .reads) (x .sound) in
+      let e = edit-many k a news b within in
+      omega arith
 
   kept : (w v : Which) → There c w → There b v → columnsFor c w ≡ columnsFor b v → rowFor c w ≡ rowFor b v → Alike new w old v
   kept = alike new old c b (x .comes) (x .reads) (x .again) (x .sound)
@@ -67,9 +74,12 @@ module _ (d : List ℕ) (len k : ℕ) (offered : List ℕ) (m : ℕ) (x : Insert
   behind-last : k + 0 ≤ length (x .may .on .book .rows)
   behind-last = rw add-zero (x .may .within)
 
-  -- both tables are the old ones, octet for octet
+  -- both tables are the old ones, octet for octet, unused flag bits too
   pub insert-meta : metaOctets (take m inserted) ≡ metaOctets (take len d)
   insert-meta = meta-kept d len inserted m (x .may .on .book) k 0 (x .may .row ∷ []) (x .corrects) behind-last
+
+  pub insert-count : countIn (take m inserted) ≡ countIn (take len d) + 1
+  insert-count = let n = count-kept d len inserted m (x .may .on .book) k 0 (x .may .row ∷ []) (x .corrects) behind-last in omega arith
 
   pub insert-header : Alike (take m inserted) Header (take len d) Header
   insert-header = header-kept d len inserted m (x .may .on .book) k 0 (x .may .row ∷ []) (x .corrects) behind-last
@@ -98,9 +108,12 @@ module _ (d : List ℕ) (len k m : ℕ) (x : DeleteDone d len k m) where
   one-there : k + 1 ≤ length (x .may .on .book .rows)
   one-there = rw add-one (x .may .within)
 
-  -- both tables are the old ones, octet for octet
+  -- both tables are the old ones, octet for octet, unused flag bits too
   pub delete-meta : metaOctets (take m deleted) ≡ metaOctets (take len d)
   delete-meta = meta-kept d len deleted m (x .may .on .book) k 1 [] (x .corrects) one-there
+
+  pub delete-count : countIn (take m deleted) + 1 ≡ countIn (take len d)
+  delete-count = let n = count-kept d len deleted m (x .may .on .book) k 1 [] (x .corrects) one-there in omega arith
 
   pub delete-header : Alike (take m deleted) Header (take len d) Header
   delete-header = header-kept d len deleted m (x .may .on .book) k 1 [] (x .corrects) one-there

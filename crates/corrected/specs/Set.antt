@@ -1,7 +1,7 @@
 -- Setting a value of a record, or clearing it: demand 2, the call is done exactly when what it asks holds; demand 3, it leaves the corrected book.
-use Prim.Native.Nat.{ℕ, _≤_, _<_}
+use Prim.Native.Nat.{ℕ, _≤_}
 use native.Mathlib.Omega.{arith}
-use mathlib.Core.Path.{_≡_, refl, sym, ap, _∙_}
+use mathlib.Core.Path.{_≡_, sym, ap, _∙_}
 use mathlib.Core.Bool.{true, false, not}
 use mathlib.Core.Option.{Option}
 use mathlib.Core.List.{List}
@@ -53,6 +53,7 @@ module _ (d : List ℕ) (len : ℕ) (which : Which) (t : ℕ) (e : Option (List 
       let w = ap length (set-comes d len x which t c e y z) in
       record { on = x; named = y; column = c; found = z; holds = rw (slot-for (take len d) (x .book) (x .reads) (x .sound) which c) at g; short = omega arith; room = omega arith }
 
+  -- answered with a new length: what is asked holds
   pub set-may : Octets d → Offers e → (m : ℕ) → setAnswer d len which t e ≡ corrected.Done m → SetMay d len which t e
   unfolding setAnswer setAt entryAt
   set-may od o m h =
@@ -98,6 +99,7 @@ module _ (d : List ℕ) (len : ℕ) (which : Which) (t : ℕ) (e : Option (List 
         (both (met outOfTurn 0 (ap isFound column-is))
         (ap (λ (f : Found). entryAt d (take len d) which (columnOf f) e) column-is ∙ entry-good)))
 
+    -- what is asked holds: answered with the corrected book's length
     pub set-answered : setAnswer d len which t e ≡ corrected.Done (length (bookOctets (setTo which (x .column) e b)))
     unfolding setAnswer
     set-answered = done-answered (setAt d len which t e) (length (setBook d len which t e)) _ set-clear (ap length set-book)

@@ -1,5 +1,5 @@
 -- What leaves every octet of the buffer: a refused call; clearing a value that is absent, and setting the value that is there (reading 21).
-use Prim.Native.Nat.{ℕ, zero, suc, _+_, _-_, _≤_, _<_}
+use Prim.Native.Nat.{ℕ, zero, suc, _-_, _≤_, _<_}
 use native.Mathlib.Omega.{arith}
 use mathlib.Core.Path.{_≡_, refl, sym, ap, _∙_}
 use mathlib.Core.Option.{Option, none, some}
@@ -34,7 +34,7 @@ use Rattle.corrected.specs.Buffer.{buffer-same}
 use Rattle.corrected.specs.Named.{row-sound, slots-reach}
 use Rattle.corrected.specs.Call.{BookIn}
 use Rattle.corrected.specs.Set.{SetMay, set-book, set-clear, set-answered}
-use Rattle.corrected.specs.Handed.{Handed, value, absent, refused, handedBy, handedOf, entryOn, noColumn, handedIn, rowHanded, handed-is, handed-past}
+use Rattle.corrected.specs.Handed.{value, absent, refused, handedBy, handedOf, entryOn, handedIn, handed-is, handed-past}
 
 -- ---- a refused call
 

@@ -1,19 +1,18 @@
 -- What a correction leaves: both tables, every other record in the old order, every other column's entry of the named record.
-use Prim.Native.Nat.{ℕ, suc, _+_, _-_, _≤_, _<_}
+use Prim.Native.Nat.{ℕ, _+_, _-_, _≤_, _<_}
 use native.Mathlib.Omega.{arith}
-use mathlib.Core.Path.{_≡_, refl, sym, ap, _∙_}
-use mathlib.Core.Option.{Option, none}
+use mathlib.Core.Path.{_≡_, refl, ap, _∙_}
+use mathlib.Core.Option.{Option}
 use mathlib.Core.List.{List, [], _∷_, _++_}
 use lib.ListN.{length, getD, take, drop, set, length-set, List·getD-append}
 use lib.Seq.{length-take-le, getD-take, getD-drop, getD-append-add, getD-set-same, getD-set-other}
-use Rattle.table.specs.Table.{Column}
 use Rattle.entry.specs.Present.{Row}
 use Rattle.book.specs.Book.{Book}
 use Rattle.lookup.specs.Places.{rowAt}
 use Rattle.lookup.specs.Tagged.{columnsFor, rowFor}
 use Rattle.lookup.specs.declared.Which.{Which}
 use Rattle.lookup.specs.declared.Which.the-variants.{Header, Number}
-use Rattle.editing.specs.Edit.{edited, edit, edited-length, set-row}
+use Rattle.editing.specs.Edit.{edit, edited-length, set-row}
 use Rattle.editing.specs.Set.{headed}
 use Rattle.editing.specs.Done.{There, setTo}
 
@@ -37,6 +36,10 @@ module _ (k m : ℕ) (news : List Row) (b : Book) where
   unfolding edit
   edit-head = refl
 
+  pub edit-many : k + m ≤ length (b .rows) → length (edit k m news b .rows) + m ≡ length (b .rows) + length news
+  unfolding edit
+  edit-many h = edited-length k m news (b .rows) h
+
   module _ (h : k + m ≤ length (b .rows)) where
     front : length (take k (b .rows)) ≡ k
     front = length-take-le k (b .rows) (omega arith)
@@ -47,8 +50,7 @@ module _ (k m : ℕ) (news : List Row) (b : Book) where
     row-before j l = List·getD-append (take k (b .rows)) (news ++ drop (k + m) (b .rows)) [] j (rw front l) ∙ getD-take k (b .rows) j [] l
 
     pub there-before : (j : ℕ) → j < k → There (edit k m news b) (Number j)
-    unfolding edit
-    there-before j l = let n = edited-length k m news (b .rows) h in omega arith
+    there-before j l = let n = edit-many h in omega arith
 
     -- those put in stand from k on
     pub row-new : (j : ℕ) → j < length news → rowAt (edit k m news b) (k + j) ≡ getD news j []
@@ -56,8 +58,7 @@ module _ (k m : ℕ) (news : List Row) (b : Book) where
     row-new j l = rw front at (getD-append-add (take k (b .rows)) (news ++ drop (k + m) (b .rows)) j []) ∙ List·getD-append news (drop (k + m) (b .rows)) [] j l
 
     pub there-new : (j : ℕ) → j < length news → There (edit k m news b) (Number (k + j))
-    unfolding edit
-    there-new j l = let n = edited-length k m news (b .rows) h in omega arith
+    there-new j l = let n = edit-many h in omega arith
 
     -- the records behind follow them
     pub row-behind : (j : ℕ) → rowAt (edit k m news b) (k + (length news + j)) ≡ rowAt b (k + m + j)
@@ -67,8 +68,7 @@ module _ (k m : ℕ) (news : List Row) (b : Book) where
         ∙ getD-append-add news (drop (k + m) (b .rows)) j [] ∙ getD-drop (k + m) (b .rows) j []
 
     pub there-behind : (j : ℕ) → k + m + j < length (b .rows) → There (edit k m news b) (Number (k + (length news + j)))
-    unfolding edit
-    there-behind j l = let n = edited-length k m news (b .rows) h in omega arith
+    there-behind j l = let n = edit-many h in omega arith
 
 -- ---- a value set or cleared
 
@@ -92,14 +92,17 @@ rows-set : (k : ℕ) (r : Row) (b : Book) → k < length (b .rows) → edit k 1 
 unfolding edit
 rows-set k r b h = set-row k r (b .rows) h
 
+pub set-many : (which : Which) (c : ℕ) (e : Option (List ℕ)) (b : Book) → There b which → length (setTo which c e b .rows) ≡ length (b .rows)
+unfolding headed
+set-many Header c e b h = refl
+set-many (Number k) c e b h = ap length (rows-set k (set (rowAt b k) c e) b h) ∙ length-set (b .rows) k (set (rowAt b k) c e)
+
 pub set-there : (which : Which) (c : ℕ) (e : Option (List ℕ)) (b : Book) → There b which → (w : Which) → There b w → There (setTo which c e b) w
 unfolding headed
 set-there Header c e b h Header l = tt
 set-there Header c e b h (Number j) l = l
 set-there (Number k) c e b h Header l = tt
-set-there (Number k) c e b h (Number j) l =
-    let r : Row = set (rowAt b k) c e in
-    rw (rows-set k r b h, length-set (b .rows) k r) l
+set-there (Number k) c e b h (Number j) l = rw (set-many (Number k) c e b h) l
 
 -- the named record has the entry, and every other column's as before
 pub row-named : (which : Which) (c : ℕ) (e : Option (List ℕ)) (b : Book) → There b which → rowFor (setTo which c e b) which ≡ set (rowFor b which) c e
