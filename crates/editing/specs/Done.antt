@@ -3,23 +3,25 @@
 use Prim.Native.Nat.{ℕ, _+_, _≤_, _<_}
 use native.Mathlib.Omega.{arith}
 use mathlib.Core.Path.{_≡_, refl, sym, ap, _∙_}
-use mathlib.Core.Option.{Option, none, some}
+use mathlib.Core.Bool.{true, false}
+use mathlib.Core.Option.{Option, none}
 use mathlib.Core.List.{List, [], _∷_}
-use lib.ListN.{length, getD, drop, set}
+use lib.ListN.{length, getD, set}
 use lib.Seq.{set-getD}
 use Rattle.answers.specs.Numbers.{mostOctets}
 use Rattle.entry.specs.Present.{Row}
-use Rattle.entry.specs.Record.{Slot, SoundEntry}
-use Rattle.book.specs.Book.{Book, Sound, headSlots, rowSlots, bookOctets}
+use Rattle.entry.specs.Record.{Slot, SoundEntry, row-long}
+use Rattle.book.specs.Book.{Book, Sound, slots-long, headSlots, rowSlots, bookOctets}
 use Rattle.book.specs.Whole.{heads-in, cols-in, body-in, count-in, same-book}
-use Rattle.lookup.specs.Places.{place-in, place-first, rowAt}
+use Rattle.lookup.specs.Places.{place-in, place-first, rowAt, sound-at}
+use Rattle.lookup.specs.Values.{entryOctets}
 use Rattle.lookup.specs.Tagged.{columnsFor, rowFor}
 use Rattle.lookup.specs.declared.Which.{Which}
 use Rattle.lookup.specs.declared.Which.the-variants.{Header, Number}
 use Rattle.editing.specs.Put.{slotsFor, setIn}
-use Rattle.editing.specs.Edit.{edit, set-row}
+use Rattle.editing.specs.Edit.{edit, edit-length, place-next, one-row, set-row}
 use Rattle.editing.specs.Entry.{entryAt}
-use Rattle.editing.specs.Set.{headed}
+use Rattle.editing.specs.Set.{headed, row-lengthened, headed-length}
 use Rattle.editing.specs.Spot.{set-row-is, set-head-is, set-row-sound, set-head-sound}
 
 -- the book has the record
@@ -59,6 +61,23 @@ pub set-sound : (b : Book) → Sound b → (d : Slot) (which : Which) (c : ℕ) 
     → length (bookOctets (setTo which c e b)) ≤ mostOctets → Sound (setTo which c e b)
 set-sound b s d Header c e h l g m = set-head-sound b s d c e l g m
 set-sound b s d (Number k) c e h l g m = set-row-sound b s d k c e h l g m
+
+-- its length: the new value comes for the old one
+pub set-length : (b : Book) → Sound b → (which : Which) (c : ℕ) (e : Option (List ℕ)) → There b which → c < length (columnsFor b which)
+    → length (bookOctets (setTo which c e b)) + length (entryOctets (entryAt (rowFor b which) c)) ≡ length (bookOctets b) + length (entryOctets e)
+set-length b s Header c e h l =
+    let n = row-long (headSlots (b .heads)) (b .head) (s .head) ∙ slots-long false (b .heads) in
+    let r = row-lengthened (b .head) e c (omega arith) in
+    let m = headed-length (set (b .head) c e) b in
+    omega arith
+set-length b s (Number k) c e h l =
+    let es : Row = rowAt b k in
+    let n = row-long (rowSlots (b .cols)) es (sound-at (rowSlots (b .cols)) (b .rows) k (s .rows) h) ∙ slots-long true (b .cols) in
+    let r = row-lengthened es e c (omega arith) in
+    let m = edit-length k 1 (set es c e ∷ []) b in
+    let p = place-next b k h in
+    let o = ap length (one-row (set es c e)) in
+    omega arith
 
 -- ---- the same book
 

@@ -1,5 +1,5 @@
 -- One entry of a row set or cleared: what becomes of its presence octets, its values and its octets, and that the row is sound again.
-use Prim.Native.Nat.{ℕ, zero, suc, _+_, _*_, _/_, _≤_, _<_}
+use Prim.Native.Nat.{ℕ, zero, suc, _+_, _/_, _<_}
 use native.Mathlib.Nat.{add-zero}
 use native.Mathlib.Omega.{arith}
 use mathlib.Core.Path.{_≡_, refl, sym, ap, ap₂, _∙_}
@@ -7,14 +7,14 @@ use mathlib.Core.Bool.{true}
 use mathlib.Core.Option.{Option, none, some}
 use mathlib.Core.List.{List, [], _∷_, _++_}
 use lib.Dec.{eqb}
-use lib.ListN.{length, getD, set, take, drop, length-set, length-append}
+use lib.ListN.{length, getD, set, take, drop, length-set}
 use lib.Seq.{set-split, set-getD}
 use Rattle.octets.specs.Octets.{Octets}
 use Rattle.octets.specs.Word.{leOf}
 use Rattle.presence.specs.Presence.{room, bitAt, isSet, spareClear, set-same, set-other, spare-zero}
 use Rattle.presence.specs.Clear.{spare-from, clear-same, clear-other, length-clearBit, octets-clearBit}
 use Rattle.entry.specs.Present.{Row, there, presenceOf, Bits, length-setBit, octets-setBit, presence-length, presence-octets, presence-bits, presence-spare, presence-one}
-use Rattle.entry.specs.Record.{Slot, valuesOf, innerOf, rowOctets, SoundEntry, SoundRow, row-length}
+use Rattle.entry.specs.Record.{Slot, valuesOf, rowOctets, SoundEntry, SoundRow}
 use Rattle.lookup.specs.Values.{values-append, entryOctets, entry-first, valueOffset, values-before, values-from}
 use Rattle.editing.specs.Put.{put, mark}
 

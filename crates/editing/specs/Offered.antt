@@ -1,8 +1,8 @@
 -- What is offered for a book: octets that are one value of a form, or one record, to their last octet.
 use Prim.Native.Nat.{ℕ, _+_}
 use native.Mathlib.Omega.{arith}
-use mathlib.Core.Path.{_≡_, refl, sym, ap, _∙_}
-use mathlib.Core.List.{List, [], _∷_, _++_, append-nil}
+use mathlib.Core.Path.{_≡_, sym, ap, _∙_}
+use mathlib.Core.List.{List, [], _++_, append-nil}
 use lib.ListN.{length, drop, length-append}
 use lib.Seq.{drop-length}
 use Rattle.octets.specs.Octets.{Octets, no-octets}

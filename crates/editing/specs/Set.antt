@@ -58,24 +58,30 @@ module _ (at s p u o : ℕ) (A S P U O Q S′ P′ N : List ℕ) (ha : length A 
 abbrev pub newSize : Row → ℕ → Option (List ℕ) → ℕ
 newSize es i e = length (rowOctets es) + length (entryOctets e) - length (entryOctets (entryAt es i))
 
-row-cut : (es : Row) (e : Option (List ℕ)) (i : ℕ) → i < length es
-    → rowOctets (set es i e) ≡ leOf 4 (newSize es i e) ++ (mark e (presenceOf es) i ++ (valuesOf (take i es) ++ (entryOctets e ++ valuesOf (drop (suc i) es))))
-unfolding framed
-row-cut es e i h =
-    let p : presenceOf (set es i e) ≡ mark e (presenceOf es) i = presence-put e i es h in
-    let v = values-cut e i es h in
+pub row-lengthened : (es : Row) (e : Option (List ℕ)) (i : ℕ) → i < length es
+    → length (rowOctets (set es i e)) + length (entryOctets (entryAt es i)) ≡ length (rowOctets es) + length (entryOctets e)
+row-lengthened es e i h =
     let a = presence-length es in
     let b = presence-length (set es i e) in
     let c = ap room (length-set es i e) in
     let d = length-append (presenceOf es) (valuesOf es) in
     let f = ap length (values-here i es h) ∙ length-append (valuesOf (take i es)) (entryOctets (entryAt es i) ++ valuesOf (drop (suc i) es)) in
     let g = length-append (entryOctets (entryAt es i)) (valuesOf (drop (suc i) es)) in
-    let j = ap length v ∙ length-append (valuesOf (take i es)) (entryOctets e ++ valuesOf (drop (suc i) es)) in
+    let j = ap length (values-cut e i es h) ∙ length-append (valuesOf (take i es)) (entryOctets e ++ valuesOf (drop (suc i) es)) in
     let k = length-append (entryOctets e) (valuesOf (drop (suc i) es)) in
     let l = length-append (presenceOf (set es i e)) (valuesOf (set es i e)) in
     let m = row-length es in
+    let n = row-length (set es i e) in
+    omega arith
+
+row-cut : (es : Row) (e : Option (List ℕ)) (i : ℕ) → i < length es
+    → rowOctets (set es i e) ≡ leOf 4 (newSize es i e) ++ (mark e (presenceOf es) i ++ (valuesOf (take i es) ++ (entryOctets e ++ valuesOf (drop (suc i) es))))
+unfolding framed
+row-cut es e i h =
+    let l = row-lengthened es e i h in
+    let n = row-length (set es i e) in
     let z : 4 + length (presenceOf (set es i e) ++ valuesOf (set es i e)) ≡ newSize es i e = omega arith in
-    row-framed (set es i e) ∙ ap₂ (λ (n : ℕ) (l : List ℕ). leOf 4 n ++ l) z (ap₂ (λ (x y : List ℕ). x ++ y) p v)
+    row-framed (set es i e) ∙ ap₂ (λ (n : ℕ) (l : List ℕ). leOf 4 n ++ l) z (ap₂ (λ (x y : List ℕ). x ++ y) (presence-put e i es h) (values-cut e i es h))
 
 row-here : (es : Row) (i : ℕ) → i < length es
     → rowOctets es ≡ leOf 4 (length (rowOctets es)) ++ (presenceOf es ++ (valuesOf (take i es) ++ (entryOctets (entryAt es i) ++ valuesOf (drop (suc i) es))))
@@ -162,6 +168,16 @@ book-headed r b =
     (sym (put-at (length T) (length T + length (rowOctets (b .head))) T (rowOctets (b .head)) (rowOctets r) (rowsOctets (b .rows)) refl refl)
     ∙ sym (sealed-put n (length T) (length T + length (rowOctets (b .head))) (rowOctets r) (bodyOctets b))
     ∙ ap (λ (y : ℕ). drop 12 (put (12 + length T) y (rowOctets r) (sealed n (bodyOctets b)))) (sym z))
+
+pub headed-length : (r : Row) (b : Book) → length (bookOctets (headed r b)) + length (rowOctets (b .head)) ≡ length (bookOctets b) + length (rowOctets r)
+unfolding headed frontOctets
+headed-length r b =
+    let T : List ℕ = tablesOctets (b .heads) (b .cols) in
+    let a = book-length (headed r b) in
+    let c = book-length b in
+    let l = length-append T (rowOctets r) in
+    let m = length-append T (rowOctets (b .head)) in
+    omega arith
 
 head-within : (b : Book) → headPlace b ≤ length (bookOctets b)
 unfolding frontOctets

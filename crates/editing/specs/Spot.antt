@@ -3,13 +3,12 @@
 use Prim.Native.Nat.{ℕ, zero, suc, _+_, _^_, _≤_, _<_}
 use native.Mathlib.Nat.{add-zero}
 use native.Mathlib.Omega.{arith}
-use mathlib.Core.Path.{_≡_, refl, sym, ap, _∙_}
+use mathlib.Core.Path.{_≡_, sym, ap, _∙_}
 use mathlib.Core.Bool.{true, false}
 use mathlib.Core.Option.{Option, none, some}
 use mathlib.Core.List.{List, [], _∷_, _++_}
 use lib.ListN.{length, getD, take, drop, set, length-append}
 use lib.Seq.{drop-append-seam}
-use Rattle.octets.specs.Word.{wordOf}
 use Rattle.answers.specs.Numbers.{mostOctets}
 use Rattle.presence.specs.Presence.{room}
 use Rattle.value.specs.Form.{value-back}

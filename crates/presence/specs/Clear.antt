@@ -1,6 +1,6 @@
 -- A presence bit that is cleared: it alone becomes 0. And spare bits by their places: they are clear where every bit behind the columns is 0.
 use mathlib.Core.Path.{_≡_, refl, sym, ap, _∙_}
-use mathlib.Core.Bool.{Bool, true}
+use mathlib.Core.Bool.{true}
 use mathlib.Core.List.{List}
 use Prim.Native.Nat.{ℕ, zero, suc, _+_, _-_, _*_, _/_, _%_, _^_, _<_, _≤_}
 use native.Mathlib.Nat.{zero-mod, zero-mul, one-mul}

@@ -1,0 +1,11 @@
+pub mod Buffer
+pub mod Named
+pub mod Call
+pub mod Set
+pub mod Insert
+pub mod Delete
+pub mod Handed
+pub mod Alike
+pub mod Elsewhere
+pub mod Renumbered
+pub mod Unchanged
