@@ -54,6 +54,7 @@ module _ (d : List ℕ) (len : ℕ) (which : Which) (t : ℕ) (e : Option (List 
   pub set-meta : metaOctets new ≡ metaOctets old
   set-meta = meta-alike new old c b (x .corrects .comes) (x .corrects .reads) (x .corrects .again) (x .corrects .sound) (set-heads which (x .may .column) e b) (set-cols which (x .may .column) e b)
 
+  -- as many records
   pub set-count : countIn new ≡ countIn old
   set-count = count-of new c (x .corrects .comes) (x .corrects .again) ∙ set-many which (x .may .column) e b (x .may .named) ∙ sym (count-of old b (x .corrects .reads) (x .corrects .sound))
 
@@ -74,6 +75,7 @@ module _ (d : List ℕ) (len : ℕ) (which : Which) (t : ℕ) (e : Option (List 
       (ap₂ (λ (cs : List Column) (es : Row). rowHanded cs es u) (set-columns which (x .may .column) e b which) (row-named which (x .may .column) e b (x .may .named))
       ∙ other-handed (columnsFor b which) (rowFor b which) e t u (x .may .column) (x .may .found) n)
 
+  -- so its stretch is the same octets
   pub set-other-stretch : (u : ℕ) → (u ≡ t → ⊥) → stretchOf new which u ≡ stretchOf old which u
   set-other-stretch u n = stretch-handed new which u ∙ ap octetsOf (set-other-tag u n) ∙ sym (stretch-handed old which u)
 

@@ -78,9 +78,11 @@ module _ (d : List ℕ) (len k : ℕ) (offered : List ℕ) (m : ℕ) (x : Insert
   pub insert-meta : metaOctets (take m inserted) ≡ metaOctets (take len d)
   insert-meta = meta-kept d len inserted m (x .may .on .book) k 0 (x .may .row ∷ []) (x .corrects) behind-last
 
+  -- one record more
   pub insert-count : countIn (take m inserted) ≡ countIn (take len d) + 1
   insert-count = let n = count-kept d len inserted m (x .may .on .book) k 0 (x .may .row ∷ []) (x .corrects) behind-last in omega arith
 
+  -- the header record is as before
   pub insert-header : Alike (take m inserted) Header (take len d) Header
   insert-header = header-kept d len inserted m (x .may .on .book) k 0 (x .may .row ∷ []) (x .corrects) behind-last
 
@@ -112,9 +114,11 @@ module _ (d : List ℕ) (len k m : ℕ) (x : DeleteDone d len k m) where
   pub delete-meta : metaOctets (take m deleted) ≡ metaOctets (take len d)
   delete-meta = meta-kept d len deleted m (x .may .on .book) k 1 [] (x .corrects) one-there
 
+  -- one record fewer
   pub delete-count : countIn (take m deleted) + 1 ≡ countIn (take len d)
   delete-count = let n = count-kept d len deleted m (x .may .on .book) k 1 [] (x .corrects) one-there in omega arith
 
+  -- the header record is as before
   pub delete-header : Alike (take m deleted) Header (take len d) Header
   delete-header = header-kept d len deleted m (x .may .on .book) k 1 [] (x .corrects) one-there
 
