@@ -7,9 +7,15 @@ use mathlib.Core.Path.{_≡_, refl, sym, ap, ap₂, _∙_}
 use mathlib.Core.Bool.{Bool, true, false, cond}
 use mathlib.Core.Option.{Option, none, some}
 use mathlib.Core.List.{List, [], _∷_, _++_, append-assoc}
+use lib.Dec.{leb}
 use lib.ListN.{length, take, drop, replicate, length-append, length-drop, length-replicate, length-set, take-append-drop}
 use lib.Seq.{slice, length-slice, length-take-le, take-append-le, drop-append-le, take-take, take-at, drop-at, drop-drop, drop-append-add, take-add}
 use borrow.Rule.Slice.PartMut.{putMid}
+use borrow.Author.Tests.{le-leb, lt-leb, leb-true}
+use Rattle.answers.specs.Numbers.{breaksRule, noRoom, mostOctets}
+use Rattle.answers.specs.declared.Verdict.{Verdict}
+use Rattle.answers.specs.declared.Verdict.the-variants.{Clear as clear, Refused}
+use Rattle.answers.specs.Verdict.{refused, _then_, need, apart, unmet}
 use Rattle.octets.specs.Splice.{splice, stored, moved, stored-in, moved-in, stored-join}
 use Rattle.octets.specs.Word.{leOf, wordOf, length-leOf}
 use Rattle.serial.specs.Serial.{serialOf}
@@ -18,6 +24,34 @@ use Rattle.book.specs.Book.{sealed, sealed-length}
 use Rattle.entry.specs.Record.{presentIn}
 use Rattle.lookup.specs.Values.{entryOctets}
 use Rattle.editing.specs.Put.{put, bufferOf, resealed, mark, spliced}
+
+-- ---- a book of n octets: the limit, then the buffer
+
+unfoldable pub roomIn : ℕ → ℕ → Verdict
+roomIn n room =
+    need (leb n mostOctets) breaksRule 0
+    then need (leb n room) noRoom 0
+
+module _ (n room : ℕ) (v : Verdict) where
+  pub room-limit : mostOctets < n → v ≡ refused breaksRule 0 → v ≡ roomIn n room
+  unfolding roomIn
+  room-limit h e = rw (lt-leb n mostOctets h) e
+
+  pub room-none : n ≤ mostOctets → room < n → v ≡ refused noRoom 0 → v ≡ roomIn n room
+  unfolding roomIn
+  room-none h k e = rw (le-leb n mostOctets h, lt-leb n room k) e
+
+pub room-good : (n room : ℕ) → n ≤ mostOctets → n ≤ room → clear ≡ roomIn n room
+unfolding roomIn
+room-good n room h k = rw (le-leb n mostOctets h, le-leb n room k)
+
+pub room-keeps : (n room : ℕ) → roomIn n room ≡ clear → (n ≤ mostOctets) × (n ≤ room)
+unfolding roomIn
+room-keeps n room e =
+    let c = apart (need (leb n mostOctets) breaksRule 0) _ e in
+    (leb-true n mostOctets (unmet _ breaksRule 0 (c .0)), leb-true n room (unmet _ noRoom 0 (c .1)))
+
+pub ruleset rooms = (room-limit, room-none, room-good)
 
 -- ---- put
 
@@ -86,6 +120,12 @@ module _ (d new : List ℕ) (len a e : ℕ) (h : a ≤ e) (i : e ≤ len) (j : l
       back : (u v : ℕ) → u ≤ v → u + (v - u) ≡ v
       back u v h = omega arith
 
+-- the octets from m up to n
+pub part-of : (d : List ℕ) (m n : ℕ) → m ≤ n → m ≤ length d → drop m (take n d) ≡ take (n - m) (drop m d)
+part-of d m n h k =
+    let z : n ≡ m + (n - m) = omega arith in
+    ap (λ (u : ℕ). drop m (take u d)) z ∙ ap (drop m) (take-add m (n - m) d) ∙ drop-at (take m d) (take (n - m) (drop m d)) m (length-take-le m d k)
+
 -- ---- reseal
 
 pub reseal-is : (d : List ℕ) (len count s : ℕ) (b c x : List ℕ) → 12 ≤ len → len ≤ length d → s ≡ serialOf (take (len - 12) (drop 12 d))
@@ -97,7 +137,7 @@ reseal-is d len count s b c x h k e p q r =
     let x₁ : x ≡ stored d 0 ((leOf 4 32 ++ leOf 4 s) ++ leOf 4 count) =
     r ∙ ap (λ (l : List ℕ). stored l 8 (leOf 4 count)) c₁ ∙ stored-join d (leOf 4 32 ++ leOf 4 s) (leOf 4 count) 0 8 refl (omega arith) in
     let x₂ : x ≡ put 0 12 ((leOf 4 32 ++ leOf 4 s) ++ leOf 4 count) d = x₁ ∙ stored-put d 0 ((leOf 4 32 ++ leOf 4 s) ++ leOf 4 count) (omega arith) in
-    let f : drop 12 (take len d) ≡ take (len - 12) (drop 12 d) = part d 12 len h (omega arith) in
+    let f : drop 12 (take len d) ≡ take (len - 12) (drop 12 d) = part-of d 12 len h (omega arith) in
     let g : drop 12 d ≡ take (len - 12) (drop 12 d) ++ drop len d = rest d 12 len h in
     x₂ ∙ rw (f, ← e) (ap (λ (l : List ℕ). leOf 4 32 ++ (leOf 4 s ++ (leOf 4 count ++ l))) g)
   where
@@ -105,11 +145,6 @@ reseal-is d len count s b c x h k e p q r =
     rest d m n h =
         let z : m + (n - m) ≡ n = omega arith in
         sym (take-append-drop (n - m) (drop m d)) ∙ ap (λ (l : List ℕ). take (n - m) (drop m d) ++ l) (drop-drop (n - m) m d ∙ ap (λ (u : ℕ). drop u d) z)
-
-    part : (d : List ℕ) (m n : ℕ) → m ≤ n → m ≤ length d → drop m (take n d) ≡ take (n - m) (drop m d)
-    part d m n h k =
-        let z : n ≡ m + (n - m) = omega arith in
-        ap (λ (u : ℕ). drop m (take u d)) z ∙ ap (drop m) (take-add m (n - m) d) ∙ drop-at (take m d) (take (n - m) (drop m d)) m (length-take-le m d k)
 
 -- ---- an entry of a record
 

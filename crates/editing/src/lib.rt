@@ -1,5 +1,7 @@
 // Parts of a book replaced in a lent buffer. The book is its first `len` octets. What follows a part is moved before anything is written over it; octets of
 // the old book behind the new one become 0.
+use answers::Verdict;
+use answers::refuse;
 use octets::put_word;
 ghost use mathlib.Core.Path.{_≡_};
 ghost use Prim.Native.Nat.{_+_, _-_, _^_, _≤_, _<_};
@@ -9,7 +11,7 @@ ghost use Rattle.presence.specs.Presence.{room};
 ghost use Rattle.entry.specs.Record.{presentIn};
 ghost use Rattle.lookup.specs.Values.{entryOctets};
 ghost use Rattle.editing.specs.Put.{put, bufferOf, resealed, spliced};
-ghost use Rattle.editing.specs.InPlace.{offered, markedBy};
+ghost use Rattle.editing.specs.InPlace.{offered, markedBy, roomIn};
 
 // The octets from `a` up to `e` become `new`.
 fn replace(buf: &mut [u8], len: usize, a: usize, e: usize, new: &[u8])
@@ -55,8 +57,8 @@ pub fn put_records(buf: &mut [u8], len: usize, a: usize, e: usize, new: &[u8], c
     reseal(buf, a + new.len() + (len - e), count);
 }
 
-// Where the entry of a column stands: the record's place and its number of columns, the column, the first octet and how many there are.
-pub struct Spot {
+// An entry of a record: the record's place and its number of columns, the column, the entry's first octet and how many it has.
+pub struct Cell {
     pub place: usize,
     pub columns: usize,
     pub column: usize,
@@ -65,7 +67,7 @@ pub struct Spot {
 }
 
 // The entry becomes `value` where one is to be there, else nothing; presence bit, size and header follow.
-pub fn put_entry(buf: &mut [u8], len: usize, s: Spot, there: bool, value: &[u8], count: usize)
+pub fn put_entry(buf: &mut [u8], len: usize, s: Cell, there: bool, value: &[u8], count: usize)
     requires { ⌜ (12 ≤ s .place) × (s .place + 4 + room (s .columns) ≤ s .start) × (s .start + s .long ≤ len) × (len ≤ length (now buf)) × (len - s .long + length (now value) ≤ length (now buf)) × (s .long ≤ wordOf 4 (drop (s .place) (now buf))) × (now value ≡ entryOctets (offered there (now value))) ⌝ }
     ensures { λ _. ⌜ now (buf .exit) ≡ bufferOf (now (buf .entry)) len (resealed count (spliced (s .place) (s .columns) (s .column) (s .start) (s .long) (wordOf 4 (drop (s .place) (take len (now (buf .entry)))) + length (entryOctets (offered there (now (value .entry)))) - s .long) (offered there (now (value .entry))) (presentIn (s .columns) (drop (s .place) (take len (now (buf .entry))))) (take len (now (buf .entry))))) ⌝ }
 {
@@ -77,4 +79,17 @@ pub fn put_entry(buf: &mut [u8], len: usize, s: Spot, there: bool, value: &[u8],
     mark(buf, bits, head, s.column, there);
     put_word(buf, at, 4, (size - s.long + value.len()) as u64);
     reseal(buf, len - s.long + value.len(), count);
+}
+
+// A book of n octets: the limit, then the buffer, which has `room`.
+pub fn judge_room(n: usize, room: usize) -> Verdict
+    ensures { λ r. ⌜ r ≡ roomIn n room ⌝ }
+{
+    if answers::MOST_OCTETS < n {
+        return refuse(answers::BREAKS_RULE, 0);
+    }
+    if room < n {
+        return refuse(answers::NO_ROOM, 0);
+    }
+    Verdict::Clear
 }
