@@ -14,13 +14,13 @@ ghost use Rattle.entry.specs.Record.{keysAt, valuesAt, recordAt};
 ghost use Rattle.entry.specs.Slots.{keyBit, slotsFrom, stepOf, insideAt};
 
 // Flag bit 1.
-fn is_key(flags: u32) -> bool
+pub fn is_key(flags: u32) -> bool
     ensures { λ r. ⌜ r ≡ keyBit flags ⌝ }
 {
     flags >> 1 & 1 == 1
 }
 
-fn flags_at(flags: &[u32], i: usize) -> u32
+pub fn flags_at(flags: &[u32], i: usize) -> u32
     ensures { λ r. ⌜ r ≡ getD (now (flags .entry)) i 0 ⌝ }
 {
     if i < flags.len() { flags[i] } else { 0 }
@@ -37,7 +37,7 @@ pub fn key_held(p: &[u8], flags: u32, i: usize) -> bool
 }
 
 // The keys; the presence octets `p` stand at `at`.
-fn judge_keys(p: &[u8], forms: &[u8], flags: &[u32], at: usize) -> Verdict
+pub fn judge_keys(p: &[u8], forms: &[u8], flags: &[u32], at: usize) -> Verdict
     requires { ⌜ at + room (length (now forms)) < 2 ^ 64 ⌝ }
     ensures { λ r. ⌜ r ≡ keysAt (slotsFrom (now (forms .entry)) (now (flags .entry))) 0 (now (p .entry)) at ⌝ }
 {

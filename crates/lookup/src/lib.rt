@@ -48,7 +48,7 @@ fn no_such() -> Looked
 }
 
 // The column with a whole tag.
-fn find_column(tags: &[u32], tag: u32) -> Found
+pub fn find_column(tags: &[u32], tag: u32) -> Found
     ensures { λ r. ⌜ r ≡ columnIn tag (now (tags .entry)) ⌝ }
 {
     let mut i = 0;
@@ -129,7 +129,7 @@ fn look_in(book: &[u8], columns: Columns, at: usize, tag: u32) -> Looked
 }
 
 // The place of the record that stands k records behind `at`.
-fn walk_to(book: &[u8], at: usize, k: usize) -> usize
+pub fn walk_to(book: &[u8], at: usize, k: usize) -> usize
     requires { ⌜ (at < 2 ^ 32) × (k < 65536) ⌝ }
     ensures { λ r. ⌜ r ≡ walkTo k at (drop at (now (book .entry))) ⌝ }
 {
