@@ -1,0 +1,252 @@
+"""Drives the C face (include/windtrellis.h) beside the model and compares every answer and every octet.
+
+Run from the top: python3 tests/face_against_model.py [SEED]. It builds the shared library first (make shared). The calls are
+those of make.py's streams made anew with other seeds: judging and columns, lookups, writings, corrections; each is made on
+the model and on the library, from the same octets. Slices that are too short are tried, too. Ends with
+"N calls, 0 differ".
+"""
+
+import ctypes
+import random
+import subprocess
+import sys
+from pathlib import Path
+
+sys.dont_write_bytecode = True
+
+import make
+from model import books, oab
+
+TOP = Path(__file__).resolve().parent.parent
+SHIM = 0xA5A5A5A5A5A5A5A5       # what a slice of numbers holds before a call
+HEADER = (1 << 64) - 1
+
+calls = 0
+differ = 0
+
+
+def load():
+    subprocess.run(['make', '-s', 'shared'], cwd=TOP, check=True)
+    return ctypes.CDLL(str(TOP / 'target/oab/libwindtrellis.so'))
+
+
+def octets(data):
+    return (ctypes.c_uint8 * max(len(data), 1)).from_buffer_copy(bytes(data) or b'\0'), ctypes.c_size_t(len(data))
+
+
+def words(numbers):
+    return (ctypes.c_uint32 * max(len(numbers), 1))(*numbers), ctypes.c_size_t(len(numbers))
+
+
+def numbers(count):
+    return (ctypes.c_uint64 * max(count, 1))(*[SHIM] * max(count, 1)), ctypes.c_size_t(count)
+
+
+def compare(what, want, got):
+    global calls, differ
+    calls += 1
+    if want != got:
+        differ += 1
+        if differ <= 10:
+            print('differs:', what, 'model', want, 'library', got)
+
+
+def named(record):
+    return ctypes.c_uint64(HEADER if record is None else record)
+
+
+class Face:
+    def __init__(self, library):
+        self.lib = library
+
+    # ---- reading
+
+    def judge(self, book):
+        want = oab.judge(book)
+        out, outs = numbers(6)
+        answer = self.lib.wt_judge(*octets(book), out, outs)
+        if want[0] == 'good':
+            _, length, header, address, count, place, first = want
+            compare('judge', (0, [length, count, place, first, len(header), len(address)]), (answer, list(out)))
+        else:
+            compare('judge', (want[1], [want[2]] + [SHIM] * 5), (answer, list(out)))
+        for table in (0, 1):
+            self.columns(book, want, table)
+
+    def columns(self, book, want, table):
+        tags, tag_slots = words([7] * 128)
+        flags, flag_slots = words([7] * 128)
+        out, outs = numbers(1)
+        answer = self.lib.wt_columns(*octets(book), ctypes.c_uint32(table * 5), tags, tag_slots, flags, flag_slots, out, outs)
+        if want[0] == 'good':
+            columns = want[2 + table]
+            rest = [0] * (128 - len(columns))
+            model = (0, [len(columns)], [t for t, _ in columns] + rest, [f & 3 for _, f in columns] + rest)
+        else:
+            model = (want[1], [want[2]], [7] * 128, [7] * 128)
+        compare('columns', model, (answer, list(out), list(tags), list(flags)))
+
+    def lookup(self, book, record, tag):
+        want = oab.lookup(book, record, tag)
+        out, outs = numbers(3)
+        answer = self.lib.wt_lookup(*octets(book), named(record), ctypes.c_uint32(tag), out, outs)
+        if want[0] == 'at':
+            model = (0, [1, want[1], want[2]])
+        elif want[0] == 'absent':
+            model = (0, [0, 0, 0])
+        else:
+            model = (want[1], [want[2], SHIM, SHIM])
+        compare(('lookup', record, tag), model, (answer, list(out)))
+
+    def short(self, book, buffer):
+        """Slices that are too short: 15, and nothing is touched."""
+        lent, room = octets(buffer)
+        length = ctypes.c_uint64(len(buffer))
+        tag = ctypes.c_uint32(0x3001001F)
+        tags, flags = words([7] * 128), words([7] * 128)
+        few = words([7] * 127)
+        out = numbers(1)[0]
+        for many, call in ((5, lambda o, n: self.lib.wt_judge(*octets(book), o, n)),
+                           (2, lambda o, n: self.lib.wt_lookup(*octets(book), named(0), tag, o, n)),
+                           (0, lambda o, n: self.lib.wt_columns(*octets(book), ctypes.c_uint32(1), *tags, *flags, o, n)),
+                           (1, lambda o, n: self.lib.wt_columns(*octets(book), ctypes.c_uint32(1), *few, *flags, o, n)),
+                           (1, lambda o, n: self.lib.wt_columns(*octets(book), ctypes.c_uint32(1), *tags, *few, o, n)),
+                           (0, lambda o, n: self.lib.wt_set(lent, room, length, named(0), tag, *octets(b'Q\0'), o, n)),
+                           (0, lambda o, n: self.lib.wt_clear(lent, room, length, named(0), tag, o, n)),
+                           (0, lambda o, n: self.lib.wt_insert(lent, room, length, named(0), *octets(b'\4\0\0\0'), o, n)),
+                           (0, lambda o, n: self.lib.wt_delete(lent, room, length, named(0), o, n)),
+                           (9, lambda o, n: self.lib.wt_open(o, n, lent, room)),
+                           (9, lambda o, n: self.lib.wt_begin(o, n, *words([]), *words([]), *words([]), *words([]), lent, room)),
+                           (9, lambda o, n: self.lib.wt_finish(o, n, lent, room)),
+                           (9, lambda o, n: self.lib.wt_give_number(o, n, lent, room, tag, ctypes.c_uint32(1))),
+                           (9, lambda o, n: self.lib.wt_add_octets(o, n, lent, room, *octets(b'a')))):
+            out, outs = numbers(many)
+            answer = call(out, outs)
+            compare('short', (15, [SHIM] * max(many, 1), bytes(buffer), [7] * 128, [7] * 128),
+                    (answer, list(out), bytes(lent)[:len(buffer)], list(tags[0]), list(flags[0])))
+
+
+# ---- writings: make.py's stream, each call made on the library, too
+
+class FaceWriting(make.WritingStream):
+    def __init__(self, library):
+        super().__init__()
+        self.lib = library
+        self.state = numbers(10)[0]
+        self.lent = (ctypes.c_uint8 * 1)()
+
+    def new(self, length):
+        super().new(length)
+        self.state = numbers(10)[0]
+        self.lent = octets(self.buffer)[0]
+
+    def spoil(self, length):
+        super().spoil(length)
+        self.state[0] = length
+
+    def call(self, payload):
+        before = list(self.state)
+        answer = super().call(payload)
+        number = self.perform_on_library(payload[0], payload[1:])
+        got = bytes(self.lent)[:len(self.buffer)]
+        if answer[0] == 'done':
+            compare(payload[:9], (0, answer[1], answer[1], bytes(self.buffer)), (number, self.state[9], self.state[0], got))
+        else:
+            compare(payload[:9], (answer[1], answer[2], before[:9], bytes(self.buffer)), (number, self.state[9], list(self.state)[:9], got))
+        return answer
+
+    def perform_on_library(self, what, rest):
+        state, buffer = (self.state, ctypes.c_size_t(10)), (self.lent, ctypes.c_size_t(len(self.buffer)))
+        if what == 1:
+            every = [make.least(rest[at:at + 4]) for at in range(4, len(rest), 4)]
+            parts, at = [], 0
+            for count in rest[:4]:
+                parts += words(every[at:at + count])
+                at += count
+            return self.lib.wt_begin(*state, *parts, *buffer)
+        tag = ctypes.c_uint32(make.least(rest[:4]))
+        number = ctypes.c_uint32(make.least(rest[4:8]))
+        if what == 2:
+            return self.lib.wt_open(*state, *buffer)
+        if what == 3:
+            return self.lib.wt_give_number(*state, *buffer, tag, number)
+        if what == 4:
+            return self.lib.wt_give_truth(*state, *buffer, tag, ctypes.c_uint32(rest[4] * 77))
+        if what == 5:
+            return self.lib.wt_give_octets(*state, *buffer, tag, *octets(rest[4:]))
+        if what == 6:
+            return self.lib.wt_give_list(*state, *buffer, tag, number)
+        if what == 7:
+            return self.lib.wt_add_number(*state, *buffer, tag)
+        if what == 8:
+            return self.lib.wt_add_octets(*state, *buffer, *octets(rest))
+        return self.lib.wt_close(*state, *buffer) if what == 9 else self.lib.wt_finish(*state, *buffer)
+
+
+class FaceCorrecting(make.CorrectingStream):
+    def __init__(self, library):
+        super().__init__()
+        self.lib = library
+
+    def call(self, payload):
+        lent, room = octets(self.buffer)
+        length = ctypes.c_uint64(self.length)
+        what, first, rest = payload[0], make.least(payload[1:5]), payload[5:]
+        record = named(None if first == make.HEADER_RECORD else first)
+        tag = ctypes.c_uint32(make.least(rest[:4]))
+        out, outs = numbers(1)
+        if what == 1:
+            number = self.lib.wt_set(lent, room, length, record, tag, *octets(rest[4:]), out, outs)
+        elif what == 2:
+            number = self.lib.wt_clear(lent, room, length, record, tag, out, outs)
+        elif what == 3:
+            number = self.lib.wt_insert(lent, room, length, ctypes.c_uint64(first), *octets(rest), out, outs)
+        else:
+            number = self.lib.wt_delete(lent, room, length, ctypes.c_uint64(first), out, outs)
+        answer = super().call(payload)
+        want = (0, answer[1]) if answer[0] == 'done' else (answer[1], answer[2])
+        compare(payload[:9], want + (bytes(self.buffer),), (number, out[0], bytes(lent)[:len(self.buffer)]))
+        return answer
+
+
+def read(face, rng):
+    for _ in range(300):
+        table = books.some_table(rng, records=rng.choice((1, 2, 3, 4)))
+        book = books.octets_of(table)
+        if rng.random() < 0.3:
+            made = books.faulty(table, rng, rng.choice(books.FAULTS))
+            book = made[0] if made else book
+        elif rng.random() < 0.2:
+            book = books.random_damage(book, rng)
+        face.judge(book)
+        tags = [tag for tag, _ in table[0] + table[1]] + [0]
+        for record in (None, 0, len(table[3]) - 1, len(table[3]), HEADER - 1):
+            for tag in rng.sample(tags, min(3, len(tags))) + [rng.choice(tags) ^ 0x10000]:
+                face.lookup(book, record, tag)
+    for length in range(0, 80):
+        face.judge(books.small_book()[:length])
+    face.short(books.small_book(), books.small_book())
+
+
+def main():
+    seed = int(sys.argv[1]) if len(sys.argv) > 1 else 808
+    rng = random.Random(seed)
+    library = load()
+    read(Face(library), rng)
+    stream = FaceWriting(library)
+    make.writing_begins(stream, rng)
+    make.writing_refusals(stream, rng)
+    make.writing_keys(stream, rng)
+    for _ in range(100):
+        table = books.some_table(rng, header=rng.randrange(6), address=rng.choice((0, 1, 2, 5, 8, 9)), most=4)
+        stream.play(len(oab.write_book(*table)) + rng.choice((-1, 0, 0, 9)), make.book_calls(table))
+    stream = FaceCorrecting(library)
+    make.correcting_small(stream)
+    make.correcting_chains(stream, rng)
+    make.correcting_damaged(stream, rng)
+    print(f'{calls} calls, {differ} differ')
+    return 1 if differ else 0
+
+
+if __name__ == '__main__':
+    sys.exit(main())
