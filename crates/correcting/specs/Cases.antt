@@ -1,36 +1,33 @@
 -- The ways of the code that sets and clears a value, on plain values.
-use Prim.Native.Nat.{ℕ, zero, suc, _+_, _-_, _*_, _^_, _≤_, _<_}
+use Prim.Native.Nat.{ℕ, _+_, _-_, _^_, _≤_, _<_}
 use native.Mathlib.Omega.{arith}
 use native.Mathlib.Nat.{add-zero, sub-zero}
-use mathlib.Core.Path.{_≡_, refl, sym, ap, ap₂, _∙_}
-use mathlib.Core.Bool.{Bool, true, false, cond, not}
+use mathlib.Core.Path.{_≡_, refl, sym, ap, _∙_}
+use mathlib.Core.Bool.{Bool, true, false, not}
 use mathlib.Core.Option.{Option, none, some}
-use mathlib.Core.List.{List, [], _∷_, _++_}
-use lib.Dec.{eqb, ltb, leb}
+use mathlib.Core.List.{List, []}
 use lib.ListN.{length, getD, take, drop, replicate, length-append, length-drop, length-set}
 use lib.Seq.{getD-drop, drop-drop, length-take-le}
-use borrow.Author.Tests.{le-leb, lt-leb, leb-true, lt-ltb, le-ltb, ltb-true, eq-eqb, ne-eqb}
-use Rattle.octets.specs.Cases.{split}
+use borrow.Author.Tests.{le-leb, lt-leb, lt-ltb, le-ltb, ltb-true, eq-eqb, ne-eqb}
 use Rattle.octets.specs.Word.{leOf, wordOf, length-leOf}
-use Rattle.answers.specs.Numbers.{outOfTurn, breaksRule, breaksForm, mostOctets, mostRecords}
+use Rattle.answers.specs.Numbers.{outOfTurn, breaksRule, breaksForm, mostOctets}
 use Rattle.answers.specs.declared.Refusal.{Refusal}
 use Rattle.answers.specs.declared.Verdict.{Verdict}
 use Rattle.answers.specs.declared.Verdict.the-variants.{Clear as clear, Refused}
-use Rattle.answers.specs.Verdict.{refused, _then_, need, no-clear, apart, unmet, kept, then-assoc}
+use Rattle.answers.specs.Verdict.{refused, _then_, need, no-clear, apart, unmet, then-assoc}
 use Rattle.answers.specs.declared.Walk.{Walk}
 use Rattle.answers.specs.declared.Walk.the-variants.{Ends, Broken}
 use Rattle.presence.specs.Presence.{room, setBit, clearBit}
 use Rattle.value.specs.Types.{formAt}
 use Rattle.value.specs.Value.{valueOf}
 use Rattle.table.specs.Table.{Column}
-use Rattle.table.specs.Columns.{tagsOf, formsOf, bitsOf, columnsIn, tags-long, bits-long}
-use Rattle.table.specs.declared.Columns.{Columns}
+use Rattle.table.specs.Columns.{tagsOf, bitsOf, columnsIn, bits-long}
 use Rattle.table.specs.declared.Found.{Found}
 use Rattle.table.specs.declared.Found.the-variants.{At, Nothing}
 use Rattle.table.specs.Found.{isFound, columnOf}
 use Rattle.entry.specs.Record.{Slot, presentIn}
 use Rattle.entry.specs.Slots.{keyBit, slot, slotsFrom, slots-many, slots-next}
-use Rattle.book.specs.Book.{slots-long, headSlots, rowSlots, headsIn, colsIn, recordsIn, recordsPlace, countIn, judge, sealed-length}
+use Rattle.book.specs.Book.{slots-long, headsIn, colsIn, recordsPlace, countIn, judge, sealed-length}
 use Rattle.book.specs.Judged.{judgedOf}
 use Rattle.book.specs.JudgeCases.{slots-head, slots-row}
 use Rattle.book.specs.Good.{GoodIs, good-is, refused-by, good-keeps, tags-in, forms-in, bits-in, reach-tags, reach-forms}
@@ -45,12 +42,11 @@ use Rattle.lookup.specs.declared.Which.{Which}
 use Rattle.lookup.specs.declared.Which.the-variants.{Header, Number}
 use Rattle.editing.specs.Put.{put, bufferOf, resealed, mark, spliced, spotIn, setAt, slotsFor, startFor, setIn}
 use Rattle.editing.specs.InPlace.{roomIn, room-keeps, offered, put-length, word-taken}
-use Rattle.editing.specs.Stands.{Stands, header-stands, place-stands, number-stands}
+use Rattle.editing.specs.Stands.{Stands, header-stands, number-stands}
 use Rattle.editing.specs.declared.Cell.{Cell}
-use Rattle.correcting.specs.Correct.{bookAt, roomFor, answered, fits, losing, noSlot, columnFor, slotFor, hasRecord, entryAt, setAt as setVerdict, setBook, setAnswer, setOctets}
+use Rattle.correcting.specs.Correct.{bookAt, roomFor, fits, losing, noSlot, columnFor, slotFor, hasRecord, entryAt, setAt as setVerdict, setBook, setAnswer, setOctets}
 use Rattle.correcting.specs.Find.{cellAt, cell-free, Lies, cell-lies}
 use Rattle.correcting.specs.declared.Plan.{Plan}
-use Rattle.correcting.specs.declared.Corrected.{Corrected}
 use Rattle.correcting.specs.declared.Corrected.the-variants as corrected
 
 -- ---- what is decided before anything is written
@@ -207,8 +203,6 @@ module _ (forms flags b v : List ℕ) (c at room count : ℕ) (t : Bool) (h : c 
       pub column-done : x ≡ clear → _≡_ {A = Plan} (record { verdict = x; cell = k; count = count }) (planColumn (slotsFrom forms flags) c at (offered t v) b room count)
       unfolding planColumn entryIn
       column-done y = rw (entry-was, z, room-was, y, cell-was)
-
-pub ruleset columns = (column-refused, column-long, column-room, column-done)
 
 -- what find_cell found stands in the book
 pub cell-in : (forms b : List ℕ) (c at : ℕ) (k : Cell) → Stands (length forms) at b → k ≡ cellAt (slotsFrom forms []) c at b → k .long ≤ length b
@@ -367,13 +361,14 @@ stands-for : (b : List ℕ) (which : Which) → judge b ≡ clear → hasRecord 
 stands-for b Header e h = header-stands b e
 stands-for b (Number k) e h = number-stands b e k (ltb-true k (countIn b) h)
 
-record Found· (b : List ℕ) (room : ℕ) (which : Which) (t : ℕ) (e : Option (List ℕ)) (q : Plan) : Type 0 where
+-- a plan that is clear: the record stands, the new book fits, and the plan names the entry and the count
+record Finding (b : List ℕ) (room : ℕ) (which : Which) (t : ℕ) (e : Option (List ℕ)) (q : Plan) : Type 0 where
   pub stands : Stands (length (slotsFor b which)) (startFor b which) b
   pub fits : roomIn (12 + (length (setAt (slotsFor b which) (columnHere b which t) (startFor b which) e b) - 12)) room ≡ clear
   pub cell : q .cell ≡ cellAt (slotsFor b which) (columnHere b which t) (startFor b which) b
   pub count : q .count ≡ countIn b
 
-plan-found : (b : List ℕ) (room : ℕ) (which : Which) (t : ℕ) (e : Option (List ℕ)) (q : Plan) → q ≡ planOf b room which t e → q .verdict ≡ clear → Found· b room which t e q
+plan-found : (b : List ℕ) (room : ℕ) (which : Which) (t : ℕ) (e : Option (List ℕ)) (q : Plan) → q ≡ planOf b room which t e → q .verdict ≡ clear → Finding b room which t e q
 unfolding planOf planIn planColumn entryIn
 plan-found b room which t e q p z =
     let c₁ = on-clear (judge b then need (hasRecord b which) outOfTurn 0) _ q p z in
@@ -418,7 +413,7 @@ module _ (d v : List ℕ) (len tag : ℕ) (which : Which) (t : Bool) where
       abbrev b : List ℕ
       b = take len d
 
-      found : Found· (take len d) (length d) which tag (offered t v) p
+      found : Finding (take len d) (length d) which tag (offered t v) p
       found = plan-found b (length d) which tag (offered t v) p plan-is z
 
       book-long : length (take len d) ≡ len

@@ -1,11 +1,11 @@
 -- The ways of the code that finds the entry of a column, on plain values; and that the entry stands in its record.
-use Prim.Native.Nat.{ℕ, zero, suc, _+_, _-_, _*_, _^_, _≤_, _<_}
+use Prim.Native.Nat.{ℕ, zero, suc, _+_, _-_, _^_, _≤_, _<_}
 use native.Mathlib.Omega.{arith}
 use native.Mathlib.Nat.{add-zero, sub-zero}
 use native.Mathlib.Numerals.{add-one}
 use mathlib.Core.Path.{_≡_, refl, sym, ap, ap₂, _∙_}
 use mathlib.Core.Bool.{Bool, true, false, cond}
-use mathlib.Core.List.{List, [], _∷_, _++_}
+use mathlib.Core.List.{List, [], _∷_}
 use lib.ListN.{length, getD, take, drop, length-drop}
 use lib.Seq.{drop-drop, length-take-le}
 use mir.Val.{Fits}
@@ -15,7 +15,7 @@ use Rattle.octets.specs.Word.{wordOf}
 use Rattle.answers.specs.declared.Walk.{Walk}
 use Rattle.answers.specs.declared.Walk.the-variants.{Ends, Broken}
 use Rattle.presence.specs.Presence.{room, isSet}
-use Rattle.value.specs.Types.{Form, formAt}
+use Rattle.value.specs.Types.{formAt}
 use Rattle.value.specs.Value.{valueOf}
 use Rattle.value.specs.Within.{value-within}
 use Rattle.entry.specs.Record.{Slot, presentIn, valuesIn}
@@ -99,8 +99,6 @@ module _ (forms p s : List ℕ) (c at i j : ℕ) (inv : spotFrom (drop j (slotsF
     unfolding asStretch
     find-found w z = ap asStretch (rw z at last-step)
 
-pub ruleset finds = (find-broken, find-lost, find-found)
-
 -- ---- find_cell
 
 -- column c of the record at `at` of b
@@ -108,9 +106,6 @@ unfoldable pub cellAt : List Slot → ℕ → ℕ → List ℕ → Cell
 cellAt ss c at b = record { place = at; columns = length ss; column = c; start = spotIn ss c at (drop at b) .start; long = spotIn ss c at (drop at b) .long }
 
 module _ (forms b : List ℕ) (c at m w : ℕ) (st : Stands (length forms) at b) (mz : m ≡ room (length forms)) (wz : w ≡ wordOf 4 (drop at b)) where
-  pub cell-reaches : (at + 4 + m ≤ at + w) × (at + w ≤ length b)
-  cell-reaches = let h = st .head in let k = st .whole in (omega arith, omega arith)
-
   pub cell-is : (s : Stretch)
       → s ≡ asStretch (spotFrom (slotsFrom forms []) c 0 (take (at + 4 + m - (at + 4)) (drop (at + 4) b)) (at + 4 + m) (take (at + w - (at + 4 + m)) (drop (at + 4 + m) b)))
       → _≡_ {A = Cell} (record { place = at; columns = length forms; column = c; start = s .start; long = s .long }) (cellAt (slotsFrom forms []) c at b)

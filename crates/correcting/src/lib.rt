@@ -1,4 +1,4 @@
-// Correcting a book where it stands: a value set or cleared, a record put in or taken out. The book is judged first; a refused call changes no octet.
+// A value of a book set or cleared where the book stands. The book is judged first; a refused call changes no octet.
 use answers::Refusal;
 use answers::Verdict;
 use answers::Walk;
@@ -12,16 +12,15 @@ ghost use mathlib.Core.Path.{_≡_};
 ghost use mathlib.Core.List.{[]};
 ghost use mathlib.Core.Option.{none, some};
 ghost use Prim.Native.Nat.{_+_, _^_, _≤_, _<_};
-ghost use lib.ListN.{length, take, drop};
-ghost use Rattle.entry.specs.Slots.{slotsFrom};
-ghost use Rattle.editing.specs.Put.{spotFrom};
-ghost use Rattle.editing.specs.Stands.{Stands};
+ghost use lib.ListN.{length, take};
+ghost use Rattle.entry.specs.Slots.{slot, slotsFrom};
 ghost use Rattle.lookup.specs.Values.{entryOctets};
-ghost use Rattle.entry.specs.Slots.{slot};
+ghost use Rattle.editing.specs.Put.{spotFrom};
 ghost use Rattle.editing.specs.InPlace.{offered};
-ghost use Rattle.correcting.specs.Cases.{noPlan, entryOf, planColumn, planIn, planOf};
+ghost use Rattle.editing.specs.Stands.{Stands};
 ghost use Rattle.correcting.specs.Correct.{setAnswer, setOctets};
 ghost use Rattle.correcting.specs.Find.{asStretch, cellAt};
+ghost use Rattle.correcting.specs.Cases.{noPlan, entryOf, planColumn, planIn, planOf};
 
 // The new length of the book, or the refusal.
 pub enum Corrected {

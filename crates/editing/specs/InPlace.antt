@@ -1,12 +1,11 @@
 -- The ways of the code that replaces parts in a buffer, on plain values. Behind the book stands a tail that depends on the book's length alone, so every
 -- change of one length is a change of the front.
-use Prim.Native.Nat.{ℕ, zero, suc, _+_, _-_, _≤_, _<_}
+use Prim.Native.Nat.{ℕ, _+_, _-_, _≤_, _<_}
 use native.Mathlib.Omega.{arith}
-use native.Mathlib.Nat.{add-zero}
 use mathlib.Core.Path.{_≡_, refl, sym, ap, ap₂, _∙_}
-use mathlib.Core.Bool.{Bool, true, false, cond}
+use mathlib.Core.Bool.{Bool, true, false}
 use mathlib.Core.Option.{Option, none, some}
-use mathlib.Core.List.{List, [], _∷_, _++_, append-assoc}
+use mathlib.Core.List.{List, _++_, append-assoc}
 use lib.Dec.{leb}
 use lib.ListN.{length, take, drop, replicate, length-append, length-drop, length-replicate, length-set, take-append-drop}
 use lib.Seq.{slice, length-slice, length-take-le, take-append-le, drop-append-le, take-take, take-at, drop-at, drop-drop, drop-append-add, take-add}
@@ -14,10 +13,10 @@ use borrow.Rule.Slice.PartMut.{putMid}
 use borrow.Author.Tests.{le-leb, lt-leb, leb-true}
 use Rattle.answers.specs.Numbers.{breaksRule, noRoom, mostOctets}
 use Rattle.answers.specs.declared.Verdict.{Verdict}
-use Rattle.answers.specs.declared.Verdict.the-variants.{Clear as clear, Refused}
+use Rattle.answers.specs.declared.Verdict.the-variants.{Clear as clear}
 use Rattle.answers.specs.Verdict.{refused, _then_, need, apart, unmet}
 use Rattle.octets.specs.Splice.{splice, stored, moved, stored-in, moved-in, stored-join}
-use Rattle.octets.specs.Word.{leOf, wordOf, length-leOf}
+use Rattle.octets.specs.Word.{leOf, wordOf}
 use Rattle.serial.specs.Serial.{serialOf}
 use Rattle.presence.specs.Presence.{room, setBit, clearBit}
 use Rattle.book.specs.Book.{sealed, sealed-length}

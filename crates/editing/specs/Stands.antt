@@ -10,7 +10,6 @@ use lib.Seq.{drop-drop}
 use borrow.Author.Tests.{leb-true, ltb-true}
 use Rattle.octets.specs.Word.{wordOf}
 use Rattle.answers.specs.Numbers.{cutShort, wrongSize, wrongCount}
-use Rattle.answers.specs.declared.Verdict.{Verdict}
 use Rattle.answers.specs.declared.Verdict.the-variants.{Clear as clear}
 use Rattle.answers.specs.Verdict.{need, apart, unmet}
 use Rattle.presence.specs.Presence.{room}

@@ -1,12 +1,12 @@
 -- The ways of the code that puts a record in or takes one out, on plain values.
-use Prim.Native.Nat.{ℕ, zero, suc, _+_, _-_, _*_, _^_, _≤_, _<_}
+use Prim.Native.Nat.{ℕ, _+_, _-_, _^_, _≤_, _<_}
 use native.Mathlib.Omega.{arith}
 use native.Mathlib.Nat.{add-zero, sub-zero}
-use mathlib.Core.Path.{_≡_, refl, sym, ap, ap₂, _∙_}
-use mathlib.Core.Bool.{Bool, true, false, cond, not}
-use mathlib.Core.List.{List, [], _∷_, _++_}
-use lib.Dec.{eqb, ltb, leb}
-use lib.ListN.{length, getD, take, drop, replicate, length-append, length-drop}
+use mathlib.Core.Path.{_≡_, refl, sym, ap, _∙_}
+use mathlib.Core.Bool.{false}
+use mathlib.Core.List.{List, [], _∷_}
+use lib.Dec.{ltb, leb}
+use lib.ListN.{length, take, drop, length-drop}
 use lib.Seq.{length-take-le}
 use mir.Val.{Fits}
 use mir.Syntax.{w64}
@@ -17,27 +17,25 @@ use Rattle.answers.specs.Numbers.{cutShort, wrongSize, outOfTurn, breaksRule, n
 use Rattle.answers.specs.declared.Refusal.{Refusal}
 use Rattle.answers.specs.declared.Verdict.{Verdict}
 use Rattle.answers.specs.declared.Verdict.the-variants.{Clear as clear, Refused}
-use Rattle.answers.specs.Verdict.{refused, _then_, need, no-clear, apart, unmet, kept, then-assoc}
+use Rattle.answers.specs.Verdict.{refused, _then_, need, no-clear, apart, unmet}
 use Rattle.presence.specs.Presence.{room}
 use Rattle.value.specs.Types.{formAt}
 use Rattle.table.specs.Table.{Column}
-use Rattle.table.specs.Columns.{formsOf, bitsOf, columnsIn, bits-long}
-use Rattle.table.specs.declared.Columns.{Columns}
+use Rattle.table.specs.Columns.{columnsIn}
 use Rattle.entry.specs.Record.{Slot, presentIn, keysAt, recordAt, freed}
 use Rattle.entry.specs.Slots.{keyBit, slotsFrom, slots-many}
-use Rattle.book.specs.Book.{rowSlots, headsIn, colsIn, recordsIn, recordsPlace, tablesAt, bodyAt, countIn, headerAt, judge, sealed-length}
+use Rattle.book.specs.Book.{rowSlots, colsIn, tablesAt, bodyAt, countIn, headerAt, judge, sealed-length}
 use Rattle.book.specs.Judged.{Fits128, tablesIn, judgedOf}
 use Rattle.book.specs.JudgeCases.{slots-row, tables-fit}
-use Rattle.book.specs.Good.{GoodIs, good-is, refused-by, good-keeps, forms-in, bits-in, reach-forms}
+use Rattle.book.specs.Good.{GoodIs, good-is, refused-by, good-keeps, forms-in, bits-in}
 use Rattle.book.specs.declared.Judgement.{Judgement}
 use Rattle.book.specs.declared.Judged.the-variants as judged
 use Rattle.lookup.specs.Places.{walkTo, placeIn}
 use Rattle.lookup.specs.Cases.{walk-place}
 use Rattle.editing.specs.Put.{put, bufferOf, resealed, correctedOf}
 use Rattle.editing.specs.InPlace.{roomIn, room-keeps, put-length}
-use Rattle.editing.specs.Stands.{Stands, place-next, place-stands, number-stands}
-use Rattle.correcting.specs.Correct.{bookAt, roomFor, answered, isClear, offeredAt, insertBook, insertAt, insertAnswer, insertOctets, deleteBook, deleteAt, deleteAnswer, deleteOctets}
-use Rattle.correcting.specs.declared.Corrected.{Corrected}
+use Rattle.editing.specs.Stands.{place-next, place-stands, number-stands}
+use Rattle.correcting.specs.Correct.{bookAt, roomFor, offeredAt, insertBook, insertAt, insertAnswer, insertOctets, deleteBook, deleteAt, deleteAnswer, deleteOctets}
 use Rattle.correcting.specs.declared.Corrected.the-variants as corrected
 use Rattle.inserting.specs.declared.Gap.{Gap}
 

@@ -1,4 +1,4 @@
-use Rattle.correcting.specs.Find.{cell-is, cell-reaches}
+use Rattle.correcting.specs.Find.{cell-is}
 use borrow.Author.Needs.{needs}
 use Rattle.correcting.proofs.find_cell.Statement.{statement}
 use Rattle.correcting.proofs.find_cell.Tie as tie

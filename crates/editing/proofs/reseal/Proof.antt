@@ -35,7 +35,7 @@ same-length : tie.Need-same-length
 same-length c = search needs
 
 returns : tie.Need-returns
-returns c = search reseal-is
+returns c = reseal-is _ _ _ _ _ _ _ (c .before .before .before .before .before .before .before .before .before .before .before .before .before .before .before .before .pre .0) (c .before .before .before .before .before .before .before .before .before .before .before .before .before .before .before .before .pre .1) (c .before .before .before .before .before .before .before .before .before .before .before .before .serial-of .ensures) (c .before .before .before .before .before .before .before .before .before .before .put-word .ensures) (c .before .before .before .before .before .before .put-word2 .ensures) (c .before .before .put-word3 .ensures)
 
 pub reseal-spec : {M : Type 1} → statement M
 reseal-spec =
