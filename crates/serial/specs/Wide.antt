@@ -5,10 +5,11 @@ use mathlib.Core.List.{List, [], _∷_, _++_}
 use Prim.Native.Nat.{ℕ, zero, suc, _+_, _-_, _*_, _/_, _%_, _^_, _<_, _≤_}
 use native.Mathlib.Nat.{mul-assoc, pow-suc, mul-div-cancel, mul-mod-left, zero-lt-suc, add-comm, suc-add, zero-add, lt-of-lt-of-le, mul-div-mul-right, mod-lt}
 use native.Mathlib.Omega.{arith}
+use native.Mathlib.Numerals.{towards-suc}
 use lib.ListN.{length, getD, take, drop, length-drop, take-append-drop}
 use lib.Seq.{length-take-le, drop-drop}
-use Rattle.octets.specs.Octets.{Octets, octets-drop, octets-take, rest-of}
-use Rattle.octets.specs.Word.{valOf, wordOf, narrowWord}
+use Rattle.octets.specs.Octets.{Octets, octets-drop, octets-take, take-octets, rest-of}
+use Rattle.octets.specs.Word.{valOf}
 use lib.Pow.{pow-pos, pow-add, pow-mono, shr-lt, split}
 use mir.Syntax.{w8, w32, w64}
 use mir.Val.{Fits}
@@ -275,10 +276,15 @@ unfolding wide
 wide-is [] o = refl
 wide-is (b ∷ bs) o = rw (wide-is bs (λ j. o (suc j))) (xor-comm b (valOf bs * 256) ∙ xor-shifted (valOf bs) 8 b (o 0) ∙ add-comm (valOf bs * 256) b)
 
+eight : (xs : List ℕ) (i : ℕ) → i + 8 ≤ length xs
+    → (getD xs i 0 ∷ getD xs (i + 1) 0 ∷ getD xs (i + 2) 0 ∷ getD xs (i + 3) 0 ∷ getD xs (i + 4) 0 ∷ getD xs (i + 5) 0 ∷ getD xs (i + 6) 0 ∷ getD xs (i + 7) 0 ∷ []) ≡ take 8 (drop i xs)
+eight xs i h = simp (towards-suc, take-octets 8 xs i h)
+
 -- the word that is read at i
-pub word-is : {r : ℕ} (xs : List ℕ) (i : ℕ) → ((j : ℕ) → Fits w8 (getD xs j 0)) → r ≡ narrowWord 8 (drop i xs) → r ≡ wide (take 8 (drop i xs))
-unfolding narrowWord wordOf
-word-is xs i o e = e ∙ sym (wide-is (take 8 (drop i xs)) (octets-take 8 (drop i xs) (octets-drop i xs (λ j. o j .fits))))
+pub word-is : {r : ℕ} (xs : List ℕ) (i : ℕ) → ((j : ℕ) → Fits w8 (getD xs j 0)) → i + 8 ≤ length xs
+    → r ≡ valOf (getD xs i 0 ∷ getD xs (i + 1) 0 ∷ getD xs (i + 2) 0 ∷ getD xs (i + 3) 0 ∷ getD xs (i + 4) 0 ∷ getD xs (i + 5) 0 ∷ getD xs (i + 6) 0 ∷ getD xs (i + 7) 0 ∷ [])
+    → r ≡ wide (take 8 (drop i xs))
+word-is xs i o h e = e ∙ ap valOf (eight xs i h) ∙ sym (wide-is (take 8 (drop i xs)) (octets-take 8 (drop i xs) (octets-drop i xs (λ j. o j .fits))))
 
 word-lt : (x : ℕ) → x < 2 ^ 64 → steps 64 x < 2 ^ 32
 word-lt x h = steps-lt 64 x (big h)

@@ -1,9 +1,10 @@
 // Long runs, eight octets at a time: what a word of 64 bits leaves behind is spread by shifts over the words that follow it, and nothing is looked up.
-use octets::word;
 ghost use mathlib.Core.Path.{_≡_};
+ghost use mathlib.Core.List.{[], _∷_};
 ghost use Prim.Native.Nat.{_+_, _≤_};
 ghost use lib.ListN.{length, take, drop};
 ghost use lib.Bits.{bitXor};
+ghost use Rattle.octets.specs.Word.{valOf};
 ghost use Rattle.serial.specs.Serial.{serialFrom};
 ghost use Rattle.serial.specs.Wide.{steps, wide, serialWith, pending};
 
@@ -13,12 +14,35 @@ fn mix(x: u64, y: u64) -> u64
     x ^ y
 }
 
+// Eight octets as one word, the lowest first: one load, once compiled.
+fn join(a: u8, b: u8, c: u8, d: u8, e: u8, f: u8, g: u8, h: u8) -> u64
+    ensures { λ r. ⌜ r ≡ valOf (a ∷ b ∷ c ∷ d ∷ e ∷ f ∷ g ∷ h ∷ []) ⌝ }
+{
+    a as u64
+        + ((b as u64) << 8)
+        + ((c as u64) << 16)
+        + ((d as u64) << 24)
+        + ((e as u64) << 32)
+        + ((f as u64) << 40)
+        + ((g as u64) << 48)
+        + ((h as u64) << 56)
+}
+
 // The word at `i`.
 fn word_at(s: &[u8], i: usize) -> u64
     requires { ⌜ i + 8 ≤ length (now s) ⌝ }
     ensures { λ r. ⌜ r ≡ wide (take 8 (drop i (now (s .entry)))) ⌝ }
 {
-    word(s, i, 8)
+    join(
+        s[i],
+        s[i + 1],
+        s[i + 2],
+        s[i + 3],
+        s[i + 4],
+        s[i + 5],
+        s[i + 6],
+        s[i + 7],
+    )
 }
 
 // 64 bits go out.
