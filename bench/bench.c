@@ -14,6 +14,7 @@ uint32_t windtrellis_serial(const uint8_t *s, size_t n);
 uint32_t windtrellis_judge(const uint8_t *book, size_t n);
 size_t windtrellis_place(const uint8_t *book, size_t n);
 size_t windtrellis_lookup(const uint8_t *book, size_t n, size_t k, uint32_t tag);
+size_t windtrellis_lookup_end(const uint8_t *book, size_t n, size_t k, uint32_t tag);
 
 static volatile size_t sink;
 
@@ -23,7 +24,7 @@ static void table_serial(const struct book *b) { sink = plain_serial_table(b->oc
 static void lib_judge(const struct book *b) { sink = windtrellis_judge(b->octets, b->length); }
 static void c_judge(const struct book *b) { sink = plain_judge(b->octets, b->length).number; }
 static void lib_lookup(const struct book *b) { sink = windtrellis_lookup(b->octets, b->length, b->records - 1, b->tag); }
-static void c_lookup(const struct book *b) { sink = plain_lookup(b->octets, b->length, b->records - 1, b->tag); }
+static void c_lookup(const struct book *b) { sink = plain_lookup(b->octets, b->length, b->records - 1, b->tag).end; }
 #ifdef WITH_ZLIB
 static void zlib_serial(const struct book *b) { sink = (uint32_t)~crc32(0, b->octets, (uInt)b->length); }
 #endif
@@ -57,9 +58,10 @@ static unsigned tried, differ;
 static void compare(const struct book *b) {
     struct refusal r = plain_judge(b->octets, b->length);
     size_t k = b->records - 1;
+    struct stretch s = plain_lookup(b->octets, b->length, k, b->tag);
     tried++;
     if (windtrellis_judge(b->octets, b->length) != r.number || windtrellis_place(b->octets, b->length) != r.place
-        || windtrellis_lookup(b->octets, b->length, k, b->tag) != plain_lookup(b->octets, b->length, k, b->tag))
+        || windtrellis_lookup(b->octets, b->length, k, b->tag) != s.start || windtrellis_lookup_end(b->octets, b->length, k, b->tag) != s.end)
         differ++;
 }
 
@@ -120,7 +122,7 @@ int main(int argc, char **argv) {
         double small[4] = {0};
         size_t length = 0;
         for (int k = 0; k < 3; k++) {
-            struct book b = make_book(s, s == EMPTY ? (size_t)16384 << 2 * k : (size_t)1 << (20 + 2 * k));
+            struct book b = make_book(s, s == EMPTY ? 62 + (4u * 65535 >> (4 - 2 * k)) : (size_t)1 << (20 + 2 * k));
             work works[] = {lib_judge, c_judge, lib_lookup, c_lookup};
             if (b.length == length) break;
             best(&b, 4, works, t);

@@ -253,20 +253,23 @@ struct refusal plain_judge(const uint8_t *book, size_t n) {
     return judge_with(book, n, &t);
 }
 
-size_t plain_lookup(const uint8_t *book, size_t n, size_t k, uint32_t tag) {
+struct stretch plain_lookup(const uint8_t *book, size_t n, size_t k, uint32_t tag) {
+    struct stretch found = {0, 0};
     struct tables t;
-    if (judge_with(book, n, &t).number) return 0;
-    if (word32(book + 8) <= k) return 0;
+    if (judge_with(book, n, &t).number) return found;
+    if (word32(book + 8) <= k) return found;
     size_t column = 0;
     while (column < t.address.count && t.address.tags[column] != tag) column++;
-    if (column == t.address.count) return 0;
+    if (column == t.address.count) return found;
     size_t at = t.at + word32(book + t.at);
     for (; 0 < k; k--) at += word32(book + at);
     const uint8_t *p = book + at + 4;
-    if (!present(p, column)) return 0;
+    if (!present(p, column)) return found;
     size_t end = at + word32(book + at);
     size_t i = at + 4 + (t.address.count + 7) / 8;
     for (size_t j = 0; j < column; j++)
         if (present(p, j)) i += value(t.address.forms[j], book + i, end - i);
-    return i;
+    found.start = i;
+    found.end = i + value(t.address.forms[column], book + i, end - i);
+    return found;
 }

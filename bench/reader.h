@@ -12,6 +12,10 @@ struct refusal {
 uint32_t plain_serial_bits(const uint8_t *s, size_t n);
 uint32_t plain_serial_table(const uint8_t *s, size_t n);
 struct refusal plain_judge(const uint8_t *book, size_t n);
-/* where the value of address record k with a tag starts, 0 where there is none */
-size_t plain_lookup(const uint8_t *book, size_t n, size_t k, uint32_t tag);
+/* where the value of address record k with a tag starts and ends, 0 where there is none */
+struct stretch {
+    size_t start, end;
+};
+
+struct stretch plain_lookup(const uint8_t *book, size_t n, size_t k, uint32_t tag);
 #endif

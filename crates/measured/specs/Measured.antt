@@ -25,6 +25,11 @@ startOf (looked.At s e) = s
 startOf looked.Absent = 0
 startOf (looked.Refused r) = 0
 
+abbrev pub endOf : Looked → ℕ
+endOf (looked.At s e) = e
+endOf looked.Absent = 0
+endOf (looked.Refused r) = 0
+
 -- what the code answers, from the answers of the calls
 
 pub good-number : (j : Judgement) (s : List ℕ) (l c h f : ℕ) → j .judged ≡ Good l c h f → j ≡ judgedOf s → 0 ≡ refusalNumber (judgedOf s .judged)
@@ -51,4 +56,15 @@ module _ (found : Looked) (s : List ℕ) (k t : ℕ) (q : found ≡ lookupOf s (
   pub start-refused : (r : Refusal) → found ≡ looked.Refused r → 0 ≡ startOf (lookupOf s (Number k) t)
   start-refused r e = rw (← q, e)
 
+  pub end-at : (x y : ℕ) → found ≡ looked.At x y → y ≡ endOf (lookupOf s (Number k) t)
+  end-at x y e = rw (← q, e)
+
+  pub end-absent : found ≡ looked.Absent → 0 ≡ endOf (lookupOf s (Number k) t)
+  end-absent e = rw (← q, e)
+
+  pub end-refused : (r : Refusal) → found ≡ looked.Refused r → 0 ≡ endOf (lookupOf s (Number k) t)
+  end-refused r e = rw (← q, e)
+
 pub ruleset starts = (start-at, start-absent, start-refused)
+
+pub ruleset ends = (end-at, end-absent, end-refused)

@@ -7,7 +7,7 @@ ghost use Rattle.serial.specs.Serial.{serialOf};
 ghost use Rattle.book.specs.Judged.{judgedOf};
 ghost use Rattle.lookup.specs.Look.{lookupOf};
 ghost use Rattle.lookup.specs.declared.Which.the-variants.{Number};
-ghost use Rattle.measured.specs.Measured.{refusalNumber, refusalPlace, startOf};
+ghost use Rattle.measured.specs.Measured.{refusalNumber, refusalPlace, startOf, endOf};
 
 #[no_mangle]
 pub extern "C" fn windtrellis_serial(s: &[u8]) -> u32
@@ -60,6 +60,19 @@ pub extern "C" fn windtrellis_lookup(book: &[u8], k: usize, tag: u32) -> usize
     let found = lookup::lookup(book, Which::Number(k), tag);
     match found {
         Looked::At(start, _) => start,
+        Looked::Absent => 0,
+        Looked::Refused(_) => 0,
+    }
+}
+
+// Where that value ends.
+#[no_mangle]
+pub extern "C" fn windtrellis_lookup_end(book: &[u8], k: usize, tag: u32) -> usize
+    ensures { λ r. ⌜ r ≡ endOf (lookupOf (now (book .entry)) (Number k) tag) ⌝ }
+{
+    let found = lookup::lookup(book, Which::Number(k), tag);
+    match found {
+        Looked::At(_, end) => end,
         Looked::Absent => 0,
         Looked::Refused(_) => 0,
     }
