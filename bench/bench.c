@@ -105,29 +105,39 @@ int main(int argc, char **argv) {
     printf("\n");
     if (differ) return 1;
 
-    struct book big = make_book(REALISTIC, 1 << 24);
     work serials[] = {lib_serial, table_serial, bits_serial,
 #ifdef WITH_ZLIB
                       zlib_serial
 #endif
     };
-    double t[4];
     int n = (int)(sizeof serials / sizeof *serials);
-    best(&big, n, serials, t);
-    printf("\nserial, %.1f MiB: library %.2f ns an octet; library / C by table %.2f; library / C by bits %.2f", (double)big.length / (1 << 20), t[0] * 1e9 / (double)big.length, t[0] / t[1], t[0] / t[2]);
-    if (n == 4) printf("; library / zlib %.2f", t[0] / t[3]);
-    printf("\n\nlibrary / plain C (table-driven serial), best of %d\n%-24s %8s %8s %7s %7s %9s %8s\n", turns, "shape", "MiB", "records", "judge", "lookup", "ns/octet", "C's");
-    free(big.octets);
+    double t[6], first = 0;
+    printf("\nserial: library / C by table, by bits, zlib; best of %d\n", turns);
+    for (int k = 0; k < 3; k++) {
+        struct book b = make_book(REALISTIC, (size_t)1 << (20 + 2 * k));
+        best(&b, n, serials, t);
+        printf("%6.2f MiB %9.2f %9.2f", (double)b.length / (1 << 20), t[0] / t[1], t[0] / t[2]);
+        if (n == 4) printf(" %9.2f", t[0] / t[3]);
+        if (k == 0) first = t[0];
+        printf("   %.2f ns/octet\n", t[0] * 1e9 / (double)b.length);
+        if (k == 2) printf("%10s grown 16 times: takes %.1f times as long\n", "", t[0] / first);
+        free(b.octets);
+    }
+    printf("\nlibrary / plain C with a table-driven serial; walks: judge without the serial, on both sides\n%-24s %7s %8s %7s %7s %7s %9s %9s\n", "shape", "MiB", "records", "judge", "lookup", "walks", "ns/octet", "C's");
     for (enum shape s = 0; s < SHAPES; s++) {
-        double small[4] = {0};
+        double small[6] = {0};
         size_t length = 0;
         for (int k = 0; k < 3; k++) {
             struct book b = make_book(s, s == EMPTY ? 62 + (4u * 65535 >> (4 - 2 * k)) : (size_t)1 << (20 + 2 * k));
-            work works[] = {lib_judge, c_judge, lib_lookup, c_lookup};
+            work works[] = {lib_judge, c_judge, lib_lookup, c_lookup, lib_serial, table_serial};
             if (b.length == length) break;
-            best(&b, 4, works, t);
+            best(&b, 6, works, t);
             double octets = (double)b.length;
-            printf("%-24s %8.2f %8zu %7.2f %7.2f %9.2f %8.2f\n", shape_names[s], octets / (1 << 20), b.records, t[0] / t[1], t[2] / t[3], t[0] * 1e9 / octets, t[1] * 1e9 / octets);
+            printf("%-24s %7.2f %8zu %7.2f %7.2f", shape_names[s], octets / (1 << 20), b.records, t[0] / t[1], t[2] / t[3]);
+            /* where a walk is next to nothing there is nothing to divide */
+            if (t[5] / 20 < t[1] - t[5]) printf(" %7.2f", (t[0] - t[4]) / (t[1] - t[5]));
+            else printf(" %7s", "-");
+            printf(" %9.2f %9.2f\n", t[0] * 1e9 / octets, t[1] * 1e9 / octets);
             if (k == 0) memcpy(small, t, sizeof small), length = b.length;
             if (k == 2) printf("%-24s grown %.1f times: judge takes %.1f times as long (C %.1f), lookup %.1f (C %.1f)\n", "", octets / (double)length, t[0] / small[0], t[1] / small[1], t[2] / small[2], t[3] / small[3]);
             fflush(stdout);
