@@ -25,6 +25,7 @@ use Rattle.answers.specs.declared.Walk.the-variants.{Ends, Broken}
 use Rattle.presence.specs.Presence.{room, isSet, spareClear}
 use Rattle.value.specs.Types.{Form, formAt}
 use Rattle.value.specs.Value.{valueOf}
+use Rattle.value.specs.Short.{shortOf, short-is}
 use Rattle.value.specs.Within.{value-within, value-breaks}
 use Rattle.entry.specs.Record.{Slot, walked, presentIn, valuesIn, keysAt, valuesAt, recordAt}
 use Rattle.entry.specs.Slots.{keyBit, slot, slotsFrom, slots-many, slots-next, stepOf, insideAt}
@@ -78,6 +79,9 @@ pub ruleset keys = (keys-end, keys-absent, keys-next)
 pub step-there : (p : List ℕ) (i : ℕ) (f : Form) (xs : List ℕ) (t : Bool) (r : Walk) → t ≡ isSet p i → t ≡ true → r ≡ valueOf f xs → r ≡ stepOf p i f xs
 unfolding stepOf
 step-there p i f xs t r e z q = rw (← e, z) q
+
+pub step-short : (p : List ℕ) (i form : ℕ) (xs : List ℕ) (t u : Bool) → t ≡ isSet p i → t ≡ true → u ≡ shortOf form xs → u ≡ true → Ends 1 ≡ stepOf p i (formAt form) xs
+step-short p i form xs t u e z f y = step-there p i (formAt form) xs t (Ends 1) e z (sym (short-is form xs (sym f ∙ y)))
 
 pub step-absent : (p : List ℕ) (i : ℕ) (f : Form) (xs : List ℕ) (t : Bool) → t ≡ isSet p i → t ≡ false → Ends 0 ≡ stepOf p i f xs
 unfolding stepOf

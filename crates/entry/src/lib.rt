@@ -56,6 +56,9 @@ pub fn walk_column(p: &[u8], i: usize, form: u8, s: &[u8]) -> Walk
     ensures { λ r. ⌜ r ≡ stepOf (now (p .entry)) i (formAt form) (now (s .entry)) ⌝ }
 {
     if presence::has(p, i) {
+        if value::is_short(form, s) {
+            return Walk::Ends(1);
+        }
         return value::walk_value(form, s);
     }
     Walk::Ends(0)

@@ -1,4 +1,7 @@
 // The serial (2.9.1): the 32-bit cyclic check of ISO/IEC 8802-3 by bit steps, the lowest bit of each octet first, from FFFFFFFF and with no last step.
+// The bit steps are the definition; runs of six words or more go through a fold that is proved equal to them.
+mod fold;
+
 ghost use mathlib.Core.Path.{_≡_};
 ghost use Rattle.serial.specs.Serial.{bitStep, octetStep, serialFrom, serialOf};
 
@@ -22,8 +25,8 @@ fn octet_step(c: u32, b: u8) -> u32
     bit_step(c)
 }
 
-// The serial goes on from `c` over all of `s`.
-pub fn serial_from(c: u32, s: &[u8]) -> u32
+// The serial goes on from `c` over all of `s`, octet by octet.
+fn octets_from(c: u32, s: &[u8]) -> u32
     ensures { λ r. ⌜ r ≡ serialFrom c (now (s .entry)) ⌝ }
 {
     let mut r = c;
@@ -33,6 +36,16 @@ pub fn serial_from(c: u32, s: &[u8]) -> u32
         i += 1;
     }
     r
+}
+
+// The serial goes on from `c` over all of `s`.
+pub fn serial_from(c: u32, s: &[u8]) -> u32
+    ensures { λ r. ⌜ r ≡ serialFrom c (now (s .entry)) ⌝ }
+{
+    if s.len() < 48 {
+        return octets_from(c, s);
+    }
+    fold::fold(c, s)
 }
 
 pub fn serial_of(s: &[u8]) -> u32

@@ -8,7 +8,7 @@ use mathlib.Core.List.{List, [], _∷_, _++_}
 use lib.ListN.{length, getD, drop, drop-of-length-le, length-append, length-drop, List·getD-append, List·getD-eq-default}
 use lib.Seq.{drop-cons, drop-drop, getD-drop, getD-append-add}
 use native.Mathlib.Numerals.{add-one}
-use borrow.Author.Tests.{eq-eqb, ne-eqb}
+use borrow.Author.Tests.{lt-ltb, eq-eqb, ne-eqb}
 use mathlib.Core.Bool.{true, false, cond}
 use Rattle.octets.specs.Cases.{split}
 use Rattle.octets.specs.Octets.{octetAt, drop-next, no-octets}
@@ -43,6 +43,11 @@ pub whole : {r : ℕ} (s : List ℕ) (i a b c d lo hi : ℕ) → r ≡ widthOf a
     → r ≡ charWidth s i
 unfolding charWidth
 whole s i a b c d lo hi q ea eb ec ed el eh = rw (el, eh, ea, eb, ec, ed) at q
+
+-- one octet below 128 is a character, whatever follows
+pub ascii : (s : List ℕ) (i a : ℕ) → a < 128 → a ≡ octetAt s i → 1 ≡ charWidth s i
+unfolding charWidth widthOf
+ascii s i a h e = rw (← e, lt-ltb a 128 h)
 
 -- The ways of `utf8_string`.
 char-drop : (s : List ℕ) (i : ℕ) → charWidth (drop i s) 0 ≡ charWidth s i

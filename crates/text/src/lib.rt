@@ -97,6 +97,9 @@ fn char_at(s: &[u8], i: usize) -> usize
     ensures { λ r. ⌜ (r ≡ charWidth (now (s .entry)) i) × (r < 5) ⌝ }
 {
     let a = octet(s, i);
+    if a < 128 {
+        return 1;
+    }
     let b = octet(s, i + 1);
     let c = octet(s, i + 2);
     let d = octet(s, i + 3);

@@ -5,3 +5,4 @@ pub mod Encode
 pub mod Form
 pub mod Cases
 pub mod Small
+pub mod Short

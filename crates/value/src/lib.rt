@@ -3,4 +3,5 @@ mod types;
 mod walks;
 
 pub use types::form_of;
+pub use walks::is_short;
 pub use walks::walk_value;

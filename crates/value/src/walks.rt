@@ -3,6 +3,7 @@ use answers::Walk;
 use whole::Number;
 ghost use mathlib.Core.Path.{_≡_};
 ghost use Rattle.value.specs.Types.{kindAt, formAt};
+ghost use Rattle.value.specs.Short.{shortOf};
 ghost use Rattle.value.specs.Value.{numericOf, truthOf, binaryOf, elementOf, listOf, valueOf};
 
 fn numeric(s: &[u8]) -> Walk
@@ -76,6 +77,23 @@ fn list(kind: u8, s: &[u8]) -> Walk
         left -= 1;
     }
     Walk::Ends(i)
+}
+
+// Whether one look at the front of `s` shows a sound value of one octet: yes or no, or a number below 128. Where it does, no walk is needed.
+pub fn is_short(form: u8, s: &[u8]) -> bool
+    ensures { λ r. ⌜ r ≡ shortOf form (now (s .entry)) ⌝ }
+{
+    if s.len() < 1 {
+        return false;
+    }
+    let a = s[0];
+    if form == 2 {
+        return a < 2;
+    }
+    if form == 1 {
+        return a < 128;
+    }
+    false
 }
 
 // The value of a form at the front of `s`.

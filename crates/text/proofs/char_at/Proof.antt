@@ -1,4 +1,4 @@
-use Rattle.text.specs.Cases.{whole}
+use Rattle.text.specs.Cases.{ascii, whole}
 use borrow.Author.Needs.{needs}
 use Rattle.text.proofs.char_at.Statement.{statement}
 use Rattle.text.proofs.char_at.Tie as tie
@@ -11,6 +11,9 @@ use Rattle.text.proofs.width.Reads as width-reads
 
 octet-requires : tie.Need-octet-requires
 octet-requires c κs = search needs
+
+returns : tie.Need-returns
+returns c = (search ascii, search needs)
 
 add-octet : tie.Need-add-octet
 add-octet c = search needs
@@ -39,14 +42,15 @@ high-requires c κs = search needs
 width-requires : tie.Need-width-requires
 width-requires c κs = search needs
 
-returns : tie.Need-returns
-returns c = (search whole, search needs)
+returns-2 : tie.Need-returns-2
+returns-2 c = (search whole, search needs)
 
 pub char-at-spec : {M : Type 1} → statement M
 char-at-spec =
     tie.close
     (tie.spec
     octet-requires
+    returns
     add-octet
     octet-requires-2
     add-octet-2
@@ -56,4 +60,4 @@ char-at-spec =
     low-requires
     high-requires
     width-requires
-    returns)
+    returns-2)

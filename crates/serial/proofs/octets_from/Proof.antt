@@ -3,10 +3,10 @@ use lib.ListN.{length, drop}
 use Prim.Native.Nat.{_≤_, _-_}
 use mathlib.Core.Path.{_≡_}
 use borrow.Author.Needs.{needs}
-use Rattle.serial.proofs.serial_from.Statement.{statement}
-use Rattle.serial.proofs.serial_from.Tie as tie
-use Rattle.serial.proofs.serial_from.Reads as reads
-use Rattle.serial.proofs.serial_from.Lts as lts
+use Rattle.serial.proofs.octets_from.Statement.{statement}
+use Rattle.serial.proofs.octets_from.Tie as tie
+use Rattle.serial.proofs.octets_from.Reads as reads
+use Rattle.serial.proofs.octets_from.Lts as lts
 use Rattle.serial.proofs.octet_step.Reads as octet-step-reads
 
 abbrev Inv-loop : tie.InvT-loop
@@ -36,8 +36,8 @@ loop-again c = search (needs, serials)
 returns : tie.Need-returns Inv-loop μ-loop
 returns c = search (needs, serials)
 
-pub serial-from-spec : {M : Type 1} → statement M
-serial-from-spec =
+pub octets-from-spec : {M : Type 1} → statement M
+octets-from-spec =
     tie.close
     (tie.spec
     Inv-loop
