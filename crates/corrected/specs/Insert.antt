@@ -14,13 +14,13 @@ use Rattle.answers.specs.declared.Verdict.{Verdict}
 use Rattle.answers.specs.declared.Verdict.the-variants.{Clear as clear, Refused}
 use Rattle.answers.specs.Verdict.{need, both, apart, met, unmet}
 use Rattle.entry.specs.Present.{Row, presenceOf, presence-bits}
-use Rattle.entry.specs.Record.{Slot, rowOctets, SoundRow, recordAt, keysAt, freed, freed-row, presentIn, present-is, row-long, row-size, record-back, keys-back}
+use Rattle.entry.specs.Record.{isClear, Slot, rowOctets, SoundRow, recordAt, keysAt, freed, freed-row, presentIn, present-is, row-long, row-size, record-back, keys-back}
 use Rattle.book.specs.Book.{Book, rowSlots, bookOctets, colsIn, countIn}
 use Rattle.editing.specs.Put.{correctedOf}
 use Rattle.editing.specs.Edit.{edit}
 use Rattle.editing.specs.Offered.{Offered, offered-keyed}
 use Rattle.editing.specs.Records.{inserted, inserted-sound, inserted-length}
-use Rattle.correcting.specs.Correct.{bookAt, isClear, offeredAt, insertBook, insertAt, insertAnswer, insertOctets}
+use Rattle.correcting.specs.Correct.{bookAt, offeredAt, insertBook, insertAt, insertAnswer, insertOctets}
 use Rattle.correcting.specs.declared.Corrected.the-variants as corrected
 use Rattle.corrected.specs.Named.{count-of, cols-of}
 use Rattle.corrected.specs.Call.{BookIn, book-may, book-good, room-may, room-good, answered-done, done-answered, Corrects, corrects}

@@ -33,7 +33,7 @@ use Rattle.book.specs.JudgeCases.{slots-head, slots-row}
 use Rattle.book.specs.Good.{GoodIs, good-is, refused-by, good-keeps, tags-in, forms-in, bits-in, reach-tags, reach-forms}
 use Rattle.book.specs.declared.Judgement.{Judgement}
 use Rattle.book.specs.declared.Judged.the-variants as judged
-use Rattle.lookup.specs.Places.{walkTo, placeIn}
+use Rattle.lookup.specs.Places.{walkBehind, walk-behind, placeIn}
 use Rattle.lookup.specs.Cases.{walk-place}
 use Rattle.lookup.specs.Look.{columnIn}
 use Rattle.lookup.specs.Laws.{column-below}
@@ -42,6 +42,7 @@ use Rattle.lookup.specs.declared.Which.{Which}
 use Rattle.lookup.specs.declared.Which.the-variants.{Header, Number}
 use Rattle.editing.specs.Put.{put, bufferOf, resealed, mark, spliced, spotIn, setAt, slotsFor, startFor, setIn}
 use Rattle.editing.specs.InPlace.{roomIn, room-keeps, offered, put-length, word-taken}
+use Rattle.editing.specs.Fits.{entryBehind, entry-fit}
 use Rattle.editing.specs.Stands.{Stands, header-stands, number-stands}
 use Rattle.editing.specs.declared.Cell.{Cell}
 use Rattle.correcting.specs.Correct.{bookAt, roomFor, fits, losing, noSlot, columnFor, slotFor, hasRecord, entryAt, setAt as setVerdict, setBook, setAnswer, setOctets}
@@ -275,14 +276,22 @@ module _ (b v : List ℕ) (room tag : ℕ) (t : Bool) (j : Judgement) (je : j �
         let n : countIn b ≡ c = sym (good .count) in
         rw (w, good .clears, n, le-ltb k c g) (rw y at z)
 
-    pub plan-number : (which : Which) (k at : ℕ) (p : Plan) → which ≡ Number k → k < c → at ≡ walkTo k f (drop f b)
+    pub number-walks : (f < 2 ^ 32) × (c < 65536)
+    number-walks =
+        let k = good-keeps b (good .clears) in
+        let g = good .first in
+        let n = good .count in
+        (omega arith, omega arith)
+
+    pub plan-number : (which : Which) (k at : ℕ) (p : Plan) → which ≡ Number k → k < c → at ≡ walkBehind k f b
         → p ≡ planIn (take (j .address .count) (j .address .tags)) (slotsFrom (take (j .address .count) (j .address .forms)) (take (j .address .count) (j .address .flags))) at tag (offered t v) b room c
         → p ≡ planOf b room which tag (offered t v)
     unfolding planOf
     plan-number which k at p w g y z =
         let cs : List Column = colsIn (drop 12 b) in
         let n : countIn b ≡ c = sym (good .count) in
-        let a : at ≡ placeIn b k = y ∙ walk-place b k f (good .first) in
+        let w₂ = number-walks in
+        let a : at ≡ placeIn b k = y ∙ walk-behind k f b (w₂ .0) (omega (arith, w₂ .1)) ∙ walk-place b k f (good .first) in
         rw (w, good .clears, n, lt-ltb k c g) (rw (good .cols, a, tags-in cs, forms-in cs, bits-in cs, slots-row cs) at z)
 
     reach-flags : (cs : List Column) → columnsIn cs .count ≤ length (columnsIn cs .flags)
@@ -299,18 +308,12 @@ module _ (b v : List ℕ) (room tag : ℕ) (t : Bool) (j : Judgement) (je : j �
         let s : Stands (length hs) (recordsPlace (drop 12 b)) b = rw (slots-long false hs) at (header-stands b (good .clears)) in
         (rw (good .heads) (reach-tags hs), rw (good .heads) (reach-forms hs), omega arith, rw (good .heads, columns-many hs, good .header) s, good-keeps b (good .clears) .0)
 
-    pub number-walks : (f < 2 ^ 32) × (c < 65536)
-    number-walks =
-        let k = good-keeps b (good .clears) in
-        let g = good .first in
-        let n = good .count in
-        (omega arith, omega arith)
-
-    pub number-reach : (k at : ℕ) → k < c → at ≡ walkTo k f (drop f b)
+    pub number-reach : (k at : ℕ) → k < c → at ≡ walkBehind k f b
         → (j .address .count ≤ length (j .address .tags)) × (j .address .count ≤ length (j .address .forms)) × (j .address .count ≤ length (j .address .flags)) × Stands (j .address .count) at b × (length b ≤ mostOctets)
     number-reach k at g y =
         let cs : List Column = colsIn (drop 12 b) in
-        let a : at ≡ placeIn b k = y ∙ walk-place b k f (good .first) in
+        let w₂ = number-walks in
+        let a : at ≡ placeIn b k = y ∙ walk-behind k f b (w₂ .0) (omega (arith, w₂ .1)) ∙ walk-place b k f (good .first) in
         let n = good .count in
         let s : Stands (length cs) (placeIn b k) b = rw (slots-long true cs) at (number-stands b (good .clears) k (omega arith)) in
         (rw (good .cols) (reach-tags cs), rw (good .cols) (reach-forms cs), rw (good .cols) (reach-flags cs), rw (good .cols, columns-many cs, a) s, good-keeps b (good .clears) .0)
@@ -448,9 +451,6 @@ module _ (d v : List ℕ) (len tag : ℕ) (which : Which) (t : Bool) where
       unfolding setAnswer setBook
       set-done = rw (verdict-is, z, column-for (take len d) which tag, set-long (take len d) which (columnHere (take len d) which tag) (offered t v), size-is)
 
-      pub set-put : (x : List ℕ)
-          → x ≡ bufferOf d len (resealed (p .count) (spliced (p .cell .place) (p .cell .columns) (p .cell .column) (p .cell .start) (p .cell .long)
-          (wordOf 4 (drop (p .cell .place) (take len d)) + length (entryOctets (offered t v)) - p .cell .long) (offered t v) (presentIn (p .cell .columns) (drop (p .cell .place) (take len d))) (take len d)))
-          → x ≡ setOctets d len which tag (offered t v)
+      pub set-put : (x : List ℕ) → x ≡ entryBehind d len (p .cell) t v (p .count) → x ≡ setOctets d len which tag (offered t v)
       unfolding setOctets setBook setIn setAt cellAt
-      set-put x q = rw (verdict-is, z, column-for (take len d) which tag) (rw (found .cell, found .count) at q)
+      set-put x q = rw (verdict-is, z, column-for (take len d) which tag) (rw (found .cell, found .count) at (entry-fit d v len (p .cell) t (p .count) x set-keeps q))

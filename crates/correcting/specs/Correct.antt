@@ -17,7 +17,7 @@ use Rattle.value.specs.Value.{valueOf}
 use Rattle.table.specs.Columns.{tagsOf}
 use Rattle.table.specs.declared.Found.{Found}
 use Rattle.table.specs.Found.{isFound, columnOf}
-use Rattle.entry.specs.Record.{Slot, recordAt, keysAt, freed, presentIn}
+use Rattle.entry.specs.Record.{Slot, isClear, recordAt, keysAt, freed, presentIn}
 use Rattle.book.specs.Book.{rowSlots, headsIn, colsIn, countIn, judge}
 use Rattle.lookup.specs.Look.{columnIn}
 use Rattle.lookup.specs.declared.Which.{Which}
@@ -94,10 +94,6 @@ unfoldable pub setOctets : List ℕ → ℕ → Which → ℕ → Option (List �
 setOctets d len which t e = kept (setAt d len which t e) d (bufferOf d len (setBook d len which t e))
 
 -- ---- insert a record before record k
-
-abbrev pub isClear : Verdict → Bool
-isClear clear = true
-isClear (Refused r) = false
 
 -- one record to its last octet, keys aside; then its keys
 unfoldable pub offeredAt : List Slot → List ℕ → Verdict

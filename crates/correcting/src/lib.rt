@@ -217,7 +217,7 @@ fn decide(book: &[u8], room: usize, which: Which, tag: u32, there: bool, value: 
                     return no_plan(refuse(answers::OUT_OF_TURN, 0));
                 }
                 let columns = j.address;
-                let at = lookup::walk_to(book, first, k);
+                let at = lookup::place_behind(book, first, k);
                 plan_in(
                     book,
                     room,

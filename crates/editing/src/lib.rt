@@ -12,6 +12,7 @@ ghost use Rattle.entry.specs.Record.{presentIn};
 ghost use Rattle.lookup.specs.Values.{entryOctets};
 ghost use Rattle.editing.specs.Put.{put, bufferOf, resealed, spliced};
 ghost use Rattle.editing.specs.InPlace.{offered, markedBy, roomIn};
+ghost use Rattle.editing.specs.Fits.{partFits, recordsPut, entryFits, entryBehind};
 
 // The octets from `a` up to `e` become `new`.
 fn replace(buf: &mut [u8], len: usize, a: usize, e: usize, new: &[u8])
@@ -48,13 +49,40 @@ fn mark(buf: &mut [u8], a: usize, e: usize, c: usize, there: bool)
     presence::clear_bit(&mut buf[a..e], c);
 }
 
-// The records from `a` up to `e` become those of `new`, of which the book then has `count`.
-pub fn put_records(buf: &mut [u8], len: usize, a: usize, e: usize, new: &[u8], count: usize)
+// Whether the octets from `a` up to `e`, behind the header, stand in a book of `len` octets, and k in their place leave it room in a buffer of n.
+fn part_fits(n: usize, len: usize, a: usize, e: usize, k: usize) -> bool
+    ensures { λ r. ⌜ r ≡ partFits n len a e k ⌝ }
+{
+    if a < 12 {
+        return false;
+    }
+    if e < a {
+        return false;
+    }
+    if len < e {
+        return false;
+    }
+    if n < len {
+        return false;
+    }
+    k <= n - (a + (len - e))
+}
+
+fn put_records_in(buf: &mut [u8], len: usize, a: usize, e: usize, new: &[u8], count: usize)
     requires { ⌜ (12 ≤ a) × (a ≤ e) × (e ≤ len) × (len ≤ length (now buf)) × (a + length (now new) + (len - e) ≤ length (now buf)) ⌝ }
     ensures { λ _. ⌜ now (buf .exit) ≡ bufferOf (now (buf .entry)) len (resealed count (put a e (now (new .entry)) (take len (now (buf .entry))))) ⌝ }
 {
     replace(buf, len, a, e, new);
     reseal(buf, a + new.len() + (len - e), count);
+}
+
+// The records from `a` up to `e` become those of `new`, of which the book then has `count`; where that does not fit nothing changes.
+pub fn put_records(buf: &mut [u8], len: usize, a: usize, e: usize, new: &[u8], count: usize)
+    ensures { λ _. ⌜ now (buf .exit) ≡ recordsPut (now (buf .entry)) len a e (now (new .entry)) count ⌝ }
+{
+    if part_fits(buf.len(), len, a, e, new.len()) {
+        put_records_in(buf, len, a, e, new, count);
+    }
 }
 
 // An entry of a record: the record's place and its number of columns, the column, the entry's first octet and how many it has.
@@ -66,8 +94,42 @@ pub struct Cell {
     pub long: usize,
 }
 
-// The entry becomes `value` where one is to be there, else nothing; presence bit, size and header follow.
-pub fn put_entry(buf: &mut [u8], len: usize, s: Cell, there: bool, value: &[u8], count: usize)
+// Whether the entry stands in a book of `len` octets, in a record whose size field says `size`, and k octets in its place leave it room in a buffer of n. Where no
+// value is to be there none is offered.
+fn entry_fits(n: usize, len: usize, s: Cell, k: usize, there: bool, size: usize) -> bool
+    ensures { λ r. ⌜ r ≡ entryFits n len s k there size ⌝ }
+{
+    if s.place < 12 {
+        return false;
+    }
+    if n < len {
+        return false;
+    }
+    if len < s.start {
+        return false;
+    }
+    if len - s.start < s.long {
+        return false;
+    }
+    if s.start < s.place {
+        return false;
+    }
+    if s.start - s.place < 4 + presence::octets_for(s.columns) {
+        return false;
+    }
+    if size < s.long {
+        return false;
+    }
+    if n - (len - s.long) < k {
+        return false;
+    }
+    if there {
+        return true;
+    }
+    k == 0
+}
+
+fn put_entry_in(buf: &mut [u8], len: usize, s: Cell, there: bool, value: &[u8], count: usize)
     requires { ⌜ (12 ≤ s .place) × (s .place + 4 + room (s .columns) ≤ s .start) × (s .start + s .long ≤ len) × (len ≤ length (now buf)) × (len - s .long + length (now value) ≤ length (now buf)) × (s .long ≤ wordOf 4 (drop (s .place) (now buf))) × (now value ≡ entryOctets (offered there (now value))) ⌝ }
     ensures { λ _. ⌜ now (buf .exit) ≡ bufferOf (now (buf .entry)) len (resealed count (spliced (s .place) (s .columns) (s .column) (s .start) (s .long) (wordOf 4 (drop (s .place) (take len (now (buf .entry)))) + length (entryOctets (offered there (now (value .entry)))) - s .long) (offered there (now (value .entry))) (presentIn (s .columns) (drop (s .place) (take len (now (buf .entry))))) (take len (now (buf .entry))))) ⌝ }
 {
@@ -79,6 +141,16 @@ pub fn put_entry(buf: &mut [u8], len: usize, s: Cell, there: bool, value: &[u8],
     mark(buf, bits, head, s.column, there);
     put_word(buf, at, 4, (size - s.long + value.len()) as u64);
     reseal(buf, len - s.long + value.len(), count);
+}
+
+// The entry becomes `value` where one is to be there, else nothing; presence bit, size and header follow. Where that does not fit nothing changes.
+pub fn put_entry(buf: &mut [u8], len: usize, s: Cell, there: bool, value: &[u8], count: usize)
+    ensures { λ _. ⌜ now (buf .exit) ≡ entryBehind (now (buf .entry)) len s there (now (value .entry)) count ⌝ }
+{
+    let size = octets::word32(buf, s.place) as usize;
+    if entry_fits(buf.len(), len, s, value.len(), there, size) {
+        put_entry_in(buf, len, s, there, value, count);
+    }
 }
 
 // A book of n octets: the limit, then the buffer, which has `room`.

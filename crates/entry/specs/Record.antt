@@ -38,6 +38,10 @@ pub walked-back : {X : Type 0} (r : Walk) (p : ℕ) (f : ℕ → Verdict) → wa
 walked-back (Ends w) p f e g = g w refl e
 walked-back (Broken q) p f e g = no-clear e
 
+abbrev pub isClear : Verdict → Bool
+isClear clear = true
+isClear (Refused r) = false
+
 -- ---- how a row is written
 
 abbrev pub valuesOf : Row → List ℕ

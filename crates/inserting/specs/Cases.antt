@@ -3,7 +3,7 @@ use Prim.Native.Nat.{ℕ, _+_, _-_, _^_, _≤_, _<_}
 use native.Mathlib.Omega.{arith}
 use native.Mathlib.Nat.{add-zero, sub-zero}
 use mathlib.Core.Path.{_≡_, refl, sym, ap, _∙_}
-use mathlib.Core.Bool.{false}
+use mathlib.Core.Bool.{Bool, true, false}
 use mathlib.Core.List.{List, [], _∷_}
 use lib.Dec.{ltb, leb}
 use lib.ListN.{length, take, drop, length-drop}
@@ -22,7 +22,7 @@ use Rattle.presence.specs.Presence.{room}
 use Rattle.value.specs.Types.{formAt}
 use Rattle.table.specs.Table.{Column}
 use Rattle.table.specs.Columns.{columnsIn}
-use Rattle.entry.specs.Record.{Slot, presentIn, keysAt, recordAt, freed}
+use Rattle.entry.specs.Record.{Slot, isClear, presentIn, keysAt, recordAt, freed}
 use Rattle.entry.specs.Slots.{keyBit, slotsFrom, slots-many}
 use Rattle.book.specs.Book.{rowSlots, colsIn, tablesAt, bodyAt, countIn, headerAt, judge, sealed-length}
 use Rattle.book.specs.Judged.{Fits128, tablesIn, judgedOf}
@@ -30,10 +30,11 @@ use Rattle.book.specs.JudgeCases.{slots-row, tables-fit}
 use Rattle.book.specs.Good.{GoodIs, good-is, refused-by, good-keeps, forms-in, bits-in}
 use Rattle.book.specs.declared.Judgement.{Judgement}
 use Rattle.book.specs.declared.Judged.the-variants as judged
-use Rattle.lookup.specs.Places.{walkTo, placeIn}
+use Rattle.lookup.specs.Places.{walkBehind, walk-behind, placeIn}
 use Rattle.lookup.specs.Cases.{walk-place}
 use Rattle.editing.specs.Put.{put, bufferOf, resealed, correctedOf}
 use Rattle.editing.specs.InPlace.{roomIn, room-keeps, put-length}
+use Rattle.editing.specs.Fits.{recordsPut, records-fit}
 use Rattle.editing.specs.Stands.{place-next, place-stands, number-stands}
 use Rattle.correcting.specs.Correct.{bookAt, roomFor, offeredAt, insertBook, insertAt, insertAnswer, insertOctets, deleteBook, deleteAt, deleteAnswer, deleteOctets}
 use Rattle.correcting.specs.declared.Corrected.the-variants as corrected
@@ -90,17 +91,17 @@ module _ (new forms flags : List ℕ) (n : ℕ) (h : n ≤ length forms) (v : Ve
           let g : room (length f) ≡ room n = ap room l in
           omega arith
 
-      module _ (k : Verdict) (ke : k ≡ keysAt (slotsFrom (take (n - 0) forms) (take (n - 0) flags)) 0 (take (4 + m - 4) (drop 4 new)) 4) where
-        keys-are : keysAt (slotsFrom (take n forms) (take n flags)) 0 (presentIn (length (slotsFrom (take n forms) (take n flags))) new) 4 ≡ k
+      module _ (k : Bool) (ke : k ≡ isClear (keysAt (slotsFrom (take (n - 0) forms) (take (n - 0) flags)) 0 (take (4 + m - 4) (drop 4 new)) 4)) where
+        keys-are : isClear (keysAt (slotsFrom (take n forms) (take n flags)) 0 (presentIn (length (slotsFrom (take n forms) (take n flags))) new) 4) ≡ k
         keys-are =
             let e : 4 + m - 4 ≡ room n = omega arith in
             rw many (rw (sub-zero n, e) at (sym ke))
 
-        pub offered-key : (r : Refusal) (x : Verdict) → k ≡ Refused r → x ≡ refused breaksRule 0 → x ≡ offeredAt (slotsFrom (take n forms) (take n flags)) new
+        pub offered-key : (x : Verdict) → k ≡ false → x ≡ refused breaksRule 0 → x ≡ offeredAt (slotsFrom (take n forms) (take n flags)) new
         unfolding offeredAt
-        offered-key r x u q = rw (record-is, z, ← we, eq-eqb w (length new) y, keys-are, u) q
+        offered-key x u q = rw (record-is, z, ← we, eq-eqb w (length new) y, keys-are, u) q
 
-        pub offered-good : k ≡ clear → clear ≡ offeredAt (slotsFrom (take n forms) (take n flags)) new
+        pub offered-good : k ≡ true → clear ≡ offeredAt (slotsFrom (take n forms) (take n flags)) new
         unfolding offeredAt
         offered-good u = rw (record-is, z, ← we, eq-eqb w (length new) y, keys-are, u)
 
@@ -196,8 +197,8 @@ module _ (b : List ℕ) (j : Judgement) (je : j ≡ judgedOf b) where
         let g = good .first in
         omega arith
 
-    place-is : (k at : ℕ) → at ≡ walkTo k f (drop f b) → placeIn b k ≡ at
-    place-is k at y = sym (y ∙ walk-place b k f (good .first))
+    place-is : (k at : ℕ) → k < 65536 → at ≡ walkBehind k f b → placeIn b k ≡ at
+    place-is k at h y = sym (y ∙ walk-behind k f b first-small h ∙ walk-place b k f (good .first))
 
     module _ (room k : ℕ) (new : List ℕ) (v : Verdict)
         (ve : v ≡ insertIn (length b) room c k new (slotsFrom (take (j .address .count) (j .address .forms)) (take (j .address .count) (j .address .flags)))) where
@@ -213,11 +214,11 @@ module _ (b : List ℕ) (j : Judgement) (je : j ≡ judgedOf b) where
       pub gap-few : v ≡ clear → (k < 65536) × (c < 65535)
       gap-few z = let i = insert-in (length b) room c k new _ (sym ve ∙ z) in (omega (arith, i .0, i .1), i .1)
 
-      pub gap-insert : (at : ℕ) → v ≡ clear → at ≡ walkTo k f (drop f b) → _≡_ {A = Gap} (record { verdict = v; place = at; end = at; count = c + 1 }) (insertGap b room k new)
+      pub gap-insert : (at : ℕ) → v ≡ clear → at ≡ walkBehind k f b → _≡_ {A = Gap} (record { verdict = v; place = at; end = at; count = c + 1 }) (insertGap b room k new)
       unfolding insertGap
       gap-insert at z y =
           let n : countIn b ≡ c = sym (good .count) in
-          rw (good .clears, verdict-is, z, add-zero k, sub-zero (countIn b + 1), n, place-is k at y)
+          rw (good .clears, verdict-is, z, add-zero k, sub-zero (countIn b + 1), n, place-is k at (gap-few z .0) y)
 
     module _ (k : ℕ) where
       pub gap-far : (x : Verdict) (g : Gap) → c ≤ k → x ≡ refused outOfTurn 0 → g ≡ noGap x → g ≡ deleteGap b k
@@ -239,20 +240,20 @@ module _ (b : List ℕ) (j : Judgement) (je : j ≡ judgedOf b) where
             let m = good-keeps b (good .clears) in
             omega arith
 
-        module _ (at w : ℕ) (ae : at ≡ walkTo k f (drop f b)) (we : w ≡ wordOf 4 (drop at b)) where
+        module _ (at w : ℕ) (ae : at ≡ walkBehind k f b) (we : w ≡ wordOf 4 (drop at b)) where
           pub gap-end : Fits w64 (at + w)
           gap-end =
               let n = good .count in
               let m = good-keeps b (good .clears) in
-              let s = rw (place-is k at ae, ← we) at (number-stands b (good .clears) k (omega arith) .whole) in
+              let s = rw (place-is k at gap-near ae, ← we) at (number-stands b (good .clears) k (omega arith) .whole) in
               record { fits = omega arith }
 
           pub gap-delete : 2 ≤ c → _≡_ {A = Gap} (record { verdict = clear; place = at; end = at + w; count = c - 1 }) (deleteGap b k)
           unfolding deleteGap
           gap-delete o =
               let n : countIn b ≡ c = sym (good .count) in
-              let m : placeIn b (k + 1) ≡ at + w = rw (place-is k at ae, ← we) at (place-next b k) in
-              rw (good .clears, n, lt-ltb k c y, lt-ltb 1 c (omega arith), add-zero c, m, place-is k at ae)
+              let m : placeIn b (k + 1) ≡ at + w = rw (place-is k at gap-near ae, ← we) at (place-next b k) in
+              rw (good .clears, n, lt-ltb k c y, lt-ltb 1 c (omega arith), add-zero c, m, place-is k at gap-near ae)
 
 -- ---- the corrected book, and the verdict of the call
 
@@ -360,9 +361,9 @@ module _ (d new : List ℕ) (len k : ℕ) where
           let i = insert-in _ _ _ k new _ (both .1) in
           rw (verdict-was, z, insert-size (take len d) new k (both .0) (i .0), long)
 
-      pub insert-put : (x : List ℕ) → x ≡ bufferOf d len (resealed (g .count) (put (g .place) (g .end) new (take len d))) → x ≡ insertOctets d len k new
+      pub insert-put : (x : List ℕ) → x ≡ recordsPut d len (g .place) (g .end) new (g .count) → x ≡ insertOctets d len k new
       unfolding insertOctets insertBook correctedOf
-      insert-put x q = rw (verdict-was, z) (rw (both .2) at q)
+      insert-put x q = rw (verdict-was, z) (rw (both .2) at (records-fit d new len (g .place) (g .end) (g .count) x insert-keeps q))
 
 -- ---- delete
 
@@ -422,6 +423,10 @@ module _ (d : List ℕ) (len k : ℕ) where
           below : k < countIn (take len d) → k ≤ countIn (take len d)
           below h = omega arith
 
-      pub delete-put : (x none : List ℕ) → none ≡ [] → x ≡ bufferOf d len (resealed (g .count) (put (g .place) (g .end) none (take len d))) → x ≡ deleteOctets d len k
+      pub delete-put : (x none : List ℕ) → none ≡ [] → x ≡ recordsPut d len (g .place) (g .end) none (g .count) → x ≡ deleteOctets d len k
       unfolding deleteOctets deleteBook correctedOf
-      delete-put x none e q = rw (delete-was, z) (rw (e, whole .2) at q)
+      delete-put x none e q =
+          let h = delete-keeps in
+          let l : length none ≡ 0 = ap length e in
+          let f = records-fit d none len (g .place) (g .end) (g .count) x (h .0, h .1, h .2, h .3, omega (arith, l, h .4)) q in
+          rw (delete-was, z) (rw (e, whole .2) at f)

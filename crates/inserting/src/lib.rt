@@ -46,10 +46,10 @@ fn judge_offered(new: &[u8], columns: Columns) -> Verdict
     };
     if octets::word32(new, 0) as usize == new.len() {
         let head = 4 + presence::octets_for(n);
-        let Verdict::Clear = entry::judge_keys(&new[4..head], &forms[0..n], &flags[0..n], 4) else {
-            return refuse(answers::BREAKS_RULE, 0);
-        };
-        return Verdict::Clear;
+        if entry::keys_held(&new[4..head], &forms[0..n], &flags[0..n]) {
+            return Verdict::Clear;
+        }
+        return refuse(answers::BREAKS_RULE, 0);
     }
     refuse(answers::BREAKS_FORM, 0)
 }
@@ -101,7 +101,7 @@ fn plan_insert(book: &[u8], room: usize, k: usize, new: &[u8]) -> Gap
             let Verdict::Clear = verdict else {
                 return no_gap(verdict);
             };
-            let place = lookup::walk_to(book, first, k);
+            let place = lookup::place_behind(book, first, k);
             Gap {
                 verdict,
                 place,
@@ -132,7 +132,7 @@ fn plan_delete(book: &[u8], k: usize) -> Gap
             if count < 2 {
                 return no_gap(refuse(answers::BREAKS_RULE, 0));
             }
-            let place = lookup::walk_to(book, first, k);
+            let place = lookup::place_behind(book, first, k);
             let end = place + octets::word32(book, place) as usize;
             Gap {
                 verdict: Verdict::Clear,

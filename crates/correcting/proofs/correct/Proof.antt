@@ -37,7 +37,7 @@ enum-told : tie.Need-enum-told
 enum-told c = search needs
 
 put-entry-requires : tie.Need-put-entry-requires
-put-entry-requires c κs = set-keeps (c .before .before .before .before .before .before .before .before .before .before .args .buf .now) (c .before .before .before .before .before .before .before .before .before .before .args .value .now) (c .before .before .before .before .before .before .before .before .before .before .args .len) (c .before .before .before .before .before .before .before .before .before .before .args .tag) (c .before .before .before .before .before .before .before .before .before .before .args .which) (c .before .before .before .before .before .before .before .before .before .before .args .there) (search needs) _ (c .before .before .before .before .decide .ensures) (search needs) (c .before .before .before .before .before .before .before .before .before .before .pre)
+put-entry-requires c κs = search needs
 
 sub-t11 : tie.Need-sub-t11
 sub-t11 c = let k = set-keeps (c .before .before .before .before .before .before .before .before .before .before .before .before .before .before .args .buf .now) (c .before .before .before .before .before .before .before .before .before .before .before .before .before .before .args .value .now) (c .before .before .before .before .before .before .before .before .before .before .before .before .before .before .args .len) (c .before .before .before .before .before .before .before .before .before .before .before .before .before .before .args .tag) (c .before .before .before .before .before .before .before .before .before .before .before .before .before .before .args .which) (c .before .before .before .before .before .before .before .before .before .before .before .before .before .before .args .there) (search needs) _ (c .before .before .before .before .before .before .before .before .decide .ensures) (search needs) (c .before .before .before .before .before .before .before .before .before .before .before .before .before .before .pre) in omega (arith, k .2)

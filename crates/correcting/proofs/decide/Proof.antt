@@ -11,7 +11,7 @@ use Rattle.answers.proofs.refuse.Reads as refuse-reads
 use Rattle.book.proofs.judge.Reads as judge-reads
 use Rattle.correcting.proofs.no_plan.Reads as no-plan-reads
 use Rattle.correcting.proofs.plan_in.Reads as plan-in-reads
-use Rattle.lookup.proofs.walk_to.Reads as walk-to-reads
+use Rattle.lookup.proofs.place_behind.Reads as place-behind-reads
 
 judge-requires : tie.Need-judge-requires
 judge-requires c κs = search needs
@@ -43,11 +43,11 @@ no-plan-requires-2 c κs = search needs
 returns : tie.Need-returns
 returns c = search plan-none
 
-walk-to-requires : tie.Need-walk-to-requires
-walk-to-requires c κs = let r = number-walks _ [] 0 0 true _ (c .before .before .before .before .before .before .before .before .judge .ensures) _ _ _ _ (c .before .before .before .before .before .before .judged2 .given .1) in (r .0, omega arith)
+place-behind-requires : tie.Need-place-behind-requires
+place-behind-requires c κs = search needs
 
 plan-in-requires-2 : tie.Need-plan-in-requires-2
-plan-in-requires-2 c κs = let r = number-reach _ [] 0 0 true _ (c .before .before .before .before .before .before .before .before .before .judge .ensures) _ _ _ _ (c .before .before .before .before .before .before .before .judged2 .given .1) _ _ (search needs) (c .walk-to .ensures) in (r .0, r .1, r .2, r .3, r .4, c .before .before .before .before .before .before .before .before .before .before .before .before .pre)
+plan-in-requires-2 c κs = let r = number-reach _ [] 0 0 true _ (c .before .before .before .before .before .before .before .before .before .judge .ensures) _ _ _ _ (c .before .before .before .before .before .before .before .judged2 .given .1) _ _ (search needs) (c .place-behind .ensures) in (r .0, r .1, r .2, r .3, r .4, c .before .before .before .before .before .before .before .before .before .before .before .before .pre)
 
 returns-2 : tie.Need-returns-2
 returns-2 c = search plan-refused
@@ -72,7 +72,7 @@ decide-spec =
     refuse-requires
     no-plan-requires-2
     returns
-    walk-to-requires
+    place-behind-requires
     plan-in-requires-2
     returns-2
     returns-3

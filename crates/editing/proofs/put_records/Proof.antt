@@ -1,41 +1,27 @@
-use Rattle.editing.specs.InPlace.{records-is}
+use Rattle.editing.specs.Fits.{part-kept, recordWays}
 use borrow.Author.Needs.{needs}
 use Rattle.editing.proofs.put_records.Statement.{statement}
 use Rattle.editing.proofs.put_records.Tie as tie
 use Rattle.editing.proofs.put_records.Reads as reads
 use Rattle.editing.proofs.put_records.Lts as lts
-use Rattle.editing.proofs.replace.Reads as replace-reads
-use Rattle.editing.proofs.reseal.Reads as reseal-reads
+use Rattle.editing.proofs.part_fits.Reads as part-fits-reads
+use Rattle.editing.proofs.put_records_in.Reads as put-records-in-reads
 
-replace-requires : tie.Need-replace-requires
-replace-requires c κs = search needs
+part-fits-requires : tie.Need-part-fits-requires
+part-fits-requires c κs = search needs
 
-add-reseal : tie.Need-add-reseal
-add-reseal c = search needs
-
-sub-reseal : tie.Need-sub-reseal
-sub-reseal c = search needs
-
-add-reseal-2 : tie.Need-add-reseal-2
-add-reseal-2 c = search needs
-
-reseal-requires : tie.Need-reseal-requires
-reseal-requires c κs = search needs
+put-records-in-requires : tie.Need-put-records-in-requires
+put-records-in-requires c κs = part-kept _ _ _ _ _ _ (c .before .before .part-fits .ensures) (search needs)
 
 same-length : tie.Need-same-length
 same-length c = search needs
 
 returns : tie.Need-returns
-returns c = search records-is
+returns c = search recordWays
+
+returns-2 : tie.Need-returns-2
+returns-2 c = search recordWays
 
 pub put-records-spec : {M : Type 1} → statement M
 put-records-spec =
-    tie.close
-    (tie.spec
-    replace-requires
-    add-reseal
-    sub-reseal
-    add-reseal-2
-    reseal-requires
-    same-length
-    returns)
+    tie.close (tie.spec part-fits-requires put-records-in-requires same-length returns returns-2)

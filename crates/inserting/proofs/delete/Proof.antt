@@ -45,7 +45,7 @@ part-put-records-end : tie.Need-part-put-records-end
 part-put-records-end c = search needs
 
 put-records-requires : tie.Need-put-records-requires
-put-records-requires c κs = delete-keeps (c .before .before .before .before .before .before .before .before .before .before .args .buf .now) (c .before .before .before .before .before .before .before .before .before .before .args .len) (c .before .before .before .before .before .before .before .before .before .before .args .k) (search needs) _ (c .before .before .before .before .before .plan-delete .ensures) (search needs)
+put-records-requires c κs = search needs
 
 sub-t8 : tie.Need-sub-t8
 sub-t8 c = let k = delete-keeps (c .before .before .before .before .before .before .before .before .before .before .before .before .before .before .args .buf .now) (c .before .before .before .before .before .before .before .before .before .before .before .before .before .before .args .len) (c .before .before .before .before .before .before .before .before .before .before .before .before .before .before .args .k) (search needs) _ (c .before .before .before .before .before .before .before .before .before .plan-delete .ensures) (search needs) in omega (arith, k .2)

@@ -35,7 +35,7 @@ enum-told : tie.Need-enum-told
 enum-told c = search needs
 
 put-records-requires : tie.Need-put-records-requires
-put-records-requires c κs = insert-keeps (c .before .before .before .before .before .before .before .before .before .args .buf .now) (c .before .before .before .before .before .before .before .before .before .args .offered .now) (c .before .before .before .before .before .before .before .before .before .args .len) (c .before .before .before .before .before .before .before .before .before .args .k) (search needs) _ (c .before .before .before .plan-insert .ensures) (search needs)
+put-records-requires c κs = search needs
 
 add-t14 : tie.Need-add-t14
 add-t14 c = search needs

@@ -1,12 +1,12 @@
-use Rattle.inserting.specs.Cases.{offered-broken, offered-longer, offered-head, offered-key, offered-good}
+use Rattle.inserting.specs.Cases.{offered-broken, offered-head, offered-key, offered-good, offered-longer}
 use borrow.Author.Needs.{needs}
 use Rattle.inserting.proofs.judge_offered.Statement.{statement}
 use Rattle.inserting.proofs.judge_offered.Tie as tie
 use Rattle.inserting.proofs.judge_offered.Reads as reads
 use Rattle.inserting.proofs.judge_offered.Lts as lts
 use Rattle.answers.proofs.refuse.Reads as refuse-reads
-use Rattle.entry.proofs.judge_keys.Reads as judge-keys-reads
 use Rattle.entry.proofs.judge_record.Reads as judge-record-reads
+use Rattle.entry.proofs.keys_held.Reads as keys-held-reads
 use Rattle.octets.proofs.word32.Reads as word32-reads
 use Rattle.presence.proofs.octets_for.Reads as octets-for-reads
 
@@ -55,50 +55,44 @@ octets-for-requires c κs = search needs
 add-head : tie.Need-add-head
 add-head c = search needs
 
-sub-judge-keys : tie.Need-sub-judge-keys
-sub-judge-keys c = search needs
+sub-keys-held : tie.Need-sub-keys-held
+sub-keys-held c = search needs
 
-part-judge-keys-start : tie.Need-part-judge-keys-start
-part-judge-keys-start c = search needs
+part-keys-held-start : tie.Need-part-keys-held-start
+part-keys-held-start c = search needs
 
-part-judge-keys-end : tie.Need-part-judge-keys-end
-part-judge-keys-end c = search offered-head
+part-keys-held-end : tie.Need-part-keys-held-end
+part-keys-held-end c = search offered-head
 
-sub-judge-keys-2 : tie.Need-sub-judge-keys-2
-sub-judge-keys-2 c = search needs
+sub-keys-held-2 : tie.Need-sub-keys-held-2
+sub-keys-held-2 c = search needs
 
-part-judge-keys-start-2 : tie.Need-part-judge-keys-start-2
-part-judge-keys-start-2 c = search needs
+part-keys-held-start-2 : tie.Need-part-keys-held-start-2
+part-keys-held-start-2 c = search needs
 
-part-judge-keys-end-2 : tie.Need-part-judge-keys-end-2
-part-judge-keys-end-2 c = search needs
+part-keys-held-end-2 : tie.Need-part-keys-held-end-2
+part-keys-held-end-2 c = search needs
 
-sub-judge-keys-3 : tie.Need-sub-judge-keys-3
-sub-judge-keys-3 c = search needs
+sub-keys-held-3 : tie.Need-sub-keys-held-3
+sub-keys-held-3 c = search needs
 
-part-judge-keys-start-3 : tie.Need-part-judge-keys-start-3
-part-judge-keys-start-3 c = search needs
+part-keys-held-start-3 : tie.Need-part-keys-held-start-3
+part-keys-held-start-3 c = search needs
 
-part-judge-keys-end-3 : tie.Need-part-judge-keys-end-3
-part-judge-keys-end-3 c = search needs
+part-keys-held-end-3 : tie.Need-part-keys-held-end-3
+part-keys-held-end-3 c = search needs
 
-judge-keys-requires : tie.Need-judge-keys-requires
-judge-keys-requires c κs = search needs
+keys-held-requires : tie.Need-keys-held-requires
+keys-held-requires c κs = search needs
 
-enum-told-3 : tie.Need-enum-told-3
-enum-told-3 c = search needs
-
-enum-told-4 : tie.Need-enum-told-4
-enum-told-4 c = search needs
+returns-2 : tie.Need-returns-2
+returns-2 c = search offered-good
 
 refuse-requires-2 : tie.Need-refuse-requires-2
 refuse-requires-2 c κs = search needs
 
-returns-2 : tie.Need-returns-2
-returns-2 c = search offered-key
-
 returns-3 : tie.Need-returns-3
-returns-3 c = search offered-good
+returns-3 c = search offered-key
 
 refuse-requires-3 : tie.Need-refuse-requires-3
 refuse-requires-3 c κs = search needs
@@ -125,20 +119,18 @@ judge-offered-spec =
     cast-if1
     octets-for-requires
     add-head
-    sub-judge-keys
-    part-judge-keys-start
-    part-judge-keys-end
-    sub-judge-keys-2
-    part-judge-keys-start-2
-    part-judge-keys-end-2
-    sub-judge-keys-3
-    part-judge-keys-start-3
-    part-judge-keys-end-3
-    judge-keys-requires
-    enum-told-3
-    enum-told-4
-    refuse-requires-2
+    sub-keys-held
+    part-keys-held-start
+    part-keys-held-end
+    sub-keys-held-2
+    part-keys-held-start-2
+    part-keys-held-end-2
+    sub-keys-held-3
+    part-keys-held-start-3
+    part-keys-held-end-3
+    keys-held-requires
     returns-2
+    refuse-requires-2
     returns-3
     refuse-requires-3
     returns-4)

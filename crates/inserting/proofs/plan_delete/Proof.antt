@@ -8,7 +8,7 @@ use Rattle.inserting.proofs.plan_delete.Lts as lts
 use Rattle.answers.proofs.refuse.Reads as refuse-reads
 use Rattle.book.proofs.judge.Reads as judge-reads
 use Rattle.inserting.proofs.no_gap.Reads as no-gap-reads
-use Rattle.lookup.proofs.walk_to.Reads as walk-to-reads
+use Rattle.lookup.proofs.place_behind.Reads as place-behind-reads
 use Rattle.octets.proofs.word32.Reads as word32-reads
 
 judge-requires : tie.Need-judge-requires
@@ -41,8 +41,8 @@ no-gap-requires-3 c κs = search needs
 returns-2 : tie.Need-returns-2
 returns-2 c = search gap-only
 
-walk-to-requires : tie.Need-walk-to-requires
-walk-to-requires c κs = (first-small _ _ (c .before .before .before .before .before .judge .ensures) _ _ _ _ (c .before .before .before .judged2 .given .1), gap-near _ _ (c .before .before .before .before .before .judge .ensures) _ _ _ _ (c .before .before .before .judged2 .given .1) _ (search needs))
+place-behind-requires : tie.Need-place-behind-requires
+place-behind-requires c κs = search needs
 
 word32-requires : tie.Need-word32-requires
 word32-requires c κs = search needs
@@ -51,7 +51,7 @@ cast-end : tie.Need-cast-end
 cast-end c = search needs
 
 add-end : tie.Need-add-end
-add-end c = gap-end _ _ (c .before .before .before .before .before .before .before .judge .ensures) _ _ _ _ (c .before .before .before .before .before .judged2 .given .1) _ (search needs) _ _ (c .before .walk-to .ensures) (c .word32 .ensures)
+add-end c = gap-end _ _ (c .before .before .before .before .before .before .before .judge .ensures) _ _ _ _ (c .before .before .before .before .before .judged2 .given .1) _ (search needs) _ _ (c .before .place-behind .ensures) (c .word32 .ensures)
 
 sub-t16 : tie.Need-sub-t16
 sub-t16 c = search needs
@@ -76,7 +76,7 @@ plan-delete-spec =
     refuse-requires-2
     no-gap-requires-3
     returns-2
-    walk-to-requires
+    place-behind-requires
     word32-requires
     cast-end
     add-end

@@ -8,7 +8,7 @@ use Rattle.inserting.proofs.plan_insert.Lts as lts
 use Rattle.book.proofs.judge.Reads as judge-reads
 use Rattle.inserting.proofs.judge_insert.Reads as judge-insert-reads
 use Rattle.inserting.proofs.no_gap.Reads as no-gap-reads
-use Rattle.lookup.proofs.walk_to.Reads as walk-to-reads
+use Rattle.lookup.proofs.place_behind.Reads as place-behind-reads
 
 judge-requires : tie.Need-judge-requires
 judge-requires c κs = search needs
@@ -37,8 +37,8 @@ no-gap-requires-2 c κs = search needs
 returns : tie.Need-returns
 returns c = search gap-refused
 
-walk-to-requires : tie.Need-walk-to-requires
-walk-to-requires c κs = (first-small _ _ (c .before .before .before .before .before .before .before .judge .ensures) _ _ _ _ (c .before .before .before .before .before .judged2 .given .1), gap-few _ _ (c .before .before .before .before .before .before .before .judge .ensures) _ _ _ _ (c .before .before .before .before .before .judged2 .given .1) _ _ _ _ (c .before .before .judge-insert .ensures) (search needs) .0)
+place-behind-requires : tie.Need-place-behind-requires
+place-behind-requires c κs = search needs
 
 add-t15 : tie.Need-add-t15
 add-t15 c = let f = gap-few _ _ (c .before .before .before .before .before .before .before .before .judge .ensures) _ _ _ _ (c .before .before .before .before .before .before .judged2 .given .1) _ _ _ _ (c .before .before .before .judge-insert .ensures) (search needs) in record { fits = omega (arith, f .1) }
@@ -62,7 +62,7 @@ plan-insert-spec =
     enum-told-2
     no-gap-requires-2
     returns
-    walk-to-requires
+    place-behind-requires
     add-t15
     returns-2
     returns-3)
