@@ -1,0 +1,5 @@
+pub mod Face
+pub mod Judging
+pub mod Looking
+pub mod Calling
+pub mod Cases
