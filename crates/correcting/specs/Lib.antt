@@ -1,1 +1,3 @@
 pub mod Correct
+pub mod Find
+pub mod Cases

@@ -7,7 +7,7 @@ use native.Mathlib.Nat.{zero-div, zero-mod, one-mul, div-eq-of-lt, mod-one, mod-
 use native.Mathlib.Numerals.{add-one, one-add}
 use native.Mathlib.Decide.{decLt, ℕ-discrete}
 use native.Mathlib.Omega.{arith}
-use lib.Bits.{bitAnd, and-mask, bitOr, bitXor, or-shr, or-mod, or-zero-r, shifted-even}
+use lib.Bits.{bitAnd, and-mask, and-high, bitOr, bitXor, or-shr, or-mod, or-zero-r, shifted-even}
 use lib.Pow.{pow-lt, pow-add, shl-shr, mod-pow-add, pow-pos, ones-split, ones-lt, high, field, mod-mod-pow}
 use borrow.Author.Tests.{eqb-true}
 use lib.Seq.{getD-set-same, getD-set-other, set-out, ext-getD}
@@ -205,6 +205,25 @@ pub set-past : (xs : List ℕ) (i : ℕ) → length xs ≤ i / 8 → xs ≡ setB
 unfolding setBit
 set-past xs i h = sym (set-out xs (i / 8) (bitOr (octetAt xs (i / 8)) (2 ^ (7 - i % 8))) h)
 
+-- the bit in its place
+and-bit : (x k : ℕ) → bitAnd x (2 ^ k) ≡ bitOf x k * 2 ^ k
+unfolding bitOf
+and-bit x k =
+    let p : 2 ^ (1 + k) ≡ 2 * 2 ^ k = pow-add 2 1 k in
+    let e : 2 ^ (1 + k) - 2 ^ k ≡ 2 ^ k = twice (2 ^ (1 + k)) (2 ^ k) p in
+    rw e at (and-high x 1 k)
+  where
+    twice : (a b : ℕ) → a ≡ 2 * b → a - b ≡ b
+    twice a b h = omega arith
+
+pub clear-in : (xs : List ℕ) (i : ℕ) → set xs (i / 8) (bitXor (octetAt xs (i / 8)) (bitAnd (octetAt xs (i / 8)) (128 / 2 ^ (i % 8)))) ≡ clearBit xs i
+unfolding clearBit bitAt
+clear-in xs i = rw (top (i % 8) (omega arith), and-bit (octetAt xs (i / 8)) (7 - i % 8))
+
+pub clear-past : (xs : List ℕ) (i : ℕ) → length xs ≤ i / 8 → xs ≡ clearBit xs i
+unfolding clearBit
+clear-past xs i h = sym (set-out xs (i / 8) (bitXor (octetAt xs (i / 8)) (bitAt xs i * 2 ^ (7 - i % 8))) h)
+
 pub bit-and : (x y : ℕ) → bitAnd (x / 2 ^ y) 1 < 2
 bit-and x y = rw (and-mask (x / 2 ^ y) 1) (omega arith)
 
@@ -222,4 +241,4 @@ room-even n h = omega arith
 pub room-odd : (n : ℕ) → (n % 8 ≡ 0 → ⊥) → n / 8 + 1 ≡ room n
 room-odd n h = omega arith
 
-pub ruleset presence = (bit-in, bit-out, bit-and, set-in, set-past, spare-none, spare-mask, spare-out, ones-step, ones-end, room-even, room-odd)
+pub ruleset presence = (bit-in, bit-out, bit-and, set-in, set-past, clear-in, clear-past, spare-none, spare-mask, spare-out, ones-step, ones-end, room-even, room-odd)

@@ -1,7 +1,7 @@
 // Presence bits (2.9.5): column i is the bit 80 >> (i mod 8) of the octet i / 8, so column 0 is the top bit of the first octet.
 ghost use mathlib.Core.Path.{_≡_};
 ghost use Prim.Native.Nat.{_≤_, _<_};
-ghost use Rattle.presence.specs.Presence.{room, bitAt, isSet, setBit, spareClear, onesIn};
+ghost use Rattle.presence.specs.Presence.{room, bitAt, isSet, setBit, clearBit, spareClear, onesIn};
 
 // The presence octets of `n` columns.
 pub fn octets_for(n: usize) -> usize
@@ -36,6 +36,16 @@ pub fn set_bit(s: &mut [u8], i: usize)
     let at = i / 8;
     if at < s.len() {
         s[at] = s[at] | 0x80 >> i % 8;
+    }
+}
+
+// Column i loses its bit; past the end nothing changes.
+pub fn clear_bit(s: &mut [u8], i: usize)
+    ensures { λ _. ⌜ now (s .exit) ≡ clearBit (now (s .entry)) i ⌝ }
+{
+    let at = i / 8;
+    if at < s.len() {
+        s[at] = s[at] ^ (s[at] & 0x80 >> i % 8);
     }
 }
 
