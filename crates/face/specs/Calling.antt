@@ -51,7 +51,3 @@ faceNumber xs o = cond (ltb (length xs) 10) outOfTurn (writtenNumber (o .answer)
 
 unfoldable pub faceState : List ℕ → Outcome → List ℕ
 faceState xs o = cond (ltb (length xs) 10) xs (writtenBy (o .answer) xs (o .state))
-
--- the octets d become e
-unfoldable pub faceOctets : List ℕ → List ℕ → List ℕ → List ℕ
-faceOctets xs d e = cond (ltb (length xs) 10) d e

@@ -2,6 +2,7 @@
 use Prim.Native.Nat.{ℕ, _≤_, _<_}
 use mathlib.Core.Path.{_≡_, sym}
 use mathlib.Core.Bool.{Bool, true, false}
+use mathlib.Core.Option.{Option}
 use mathlib.Core.List.{List, [], _∷_}
 use lib.Dec.{ltb}
 use lib.ListN.{length, getD, List·getD-eq-default}
@@ -22,13 +23,17 @@ use Rattle.lookup.specs.declared.Looked.the-variants as looked
 use Rattle.framing.specs.Frame.{openOutcome, openOctets, closeOutcome, closeOctets, finishOutcome, finishOctets}
 use Rattle.giving.specs.Give.{Given, giveOutcome, giveOctets, elementOutcome, elementOctets}
 use Rattle.begin.specs.Begin.{beginOutcome, beginOctets}
-use Rattle.face.specs.Face.{lent, laid}
+use Rattle.correcting.specs.Correct.{setAnswer, setOctets}
+use Rattle.correcting.specs.declared.Corrected.{Corrected}
+use Rattle.correcting.specs.declared.Corrected.the-variants as corrected
+use Rattle.face.specs.Face.{lent, laid, spared}
 use Rattle.face.specs.Judging.{judgedNumber, judgedValues, tableOf, shortOf, countBy, columnsValues, columnsIn, columnsAnswer, columnsTags, columnsFlags, columnsOut}
 use Rattle.face.specs.Looking.{whichOf, lookedNumber, lookedValues}
+use Rattle.face.specs.Mending.{correctedNumber, correctedValue}
 use Rattle.writing.specs.declared.Writing.{Writing}
 use Rattle.writing.specs.declared.Outcome.{Outcome}
 use Rattle.writing.specs.declared.Written.the-variants as written
-use Rattle.face.specs.Calling.{formFrom, stageFrom, stateOf, fieldsOf, writtenNumber, writtenBy, faceNumber, faceState, faceOctets}
+use Rattle.face.specs.Calling.{formFrom, stageFrom, stateOf, fieldsOf, writtenNumber, writtenBy, faceNumber, faceState}
 
 -- ---- a slice that is too short, and one that is long enough
 
@@ -39,6 +44,10 @@ short-answer n out answer h = rw (lt-ltb (length out) n h)
 pub short-kept : (n : ℕ) (out values : List ℕ) → length out < n → out ≡ laid n out values
 unfolding laid
 short-kept n out values h = rw (lt-ltb (length out) n h)
+
+pub short-spared : (n : ℕ) (out d e : List ℕ) → length out < n → d ≡ spared n out d e
+unfolding spared
+short-spared n out d e h = rw (lt-ltb (length out) n h)
 
 -- ---- judging
 
@@ -243,10 +252,6 @@ module _ (xs : List ℕ) (h : length xs < 10) where
   unfolding faceState
   short-state o = rw (lt-ltb (length xs) 10 h)
 
-  pub short-octets : (d e : List ℕ) → d ≡ faceOctets xs d e
-  unfolding faceOctets
-  short-octets d e = rw (lt-ltb (length xs) 10 h)
-
 -- f is the call's outcome by the state, g its octets
 module _ (xs : List ℕ) (h : 10 ≤ length xs) (st : Writing) (p : st ≡ stateOf xs) where
   module _ (f : Writing → Outcome) (o : Outcome) (q : o ≡ f st) where
@@ -258,8 +263,8 @@ module _ (xs : List ℕ) (h : 10 ≤ length xs) (st : Writing) (p : st ≡ state
     unfolding faceState
     whole-state d e = rw (le-ltb (length xs) 10 h, ← p, ← q) e
 
-  pub whole-octets : (g : Writing → List ℕ) (d e : List ℕ) → e ≡ g st → e ≡ faceOctets xs d (g (stateOf xs))
-  unfolding faceOctets
+  pub whole-octets : (g : Writing → List ℕ) (d e : List ℕ) → e ≡ g st → e ≡ spared 10 xs d (g (stateOf xs))
+  unfolding spared
   whole-octets g d e q = rw (le-ltb (length xs) 10 h, ← p) q
 
 module _ (xs : List ℕ) (h : 10 ≤ length xs) (st : Writing) (p : st ≡ stateOf xs) (d : List ℕ) where
@@ -269,7 +274,7 @@ module _ (xs : List ℕ) (h : 10 ≤ length xs) (st : Writing) (p : st ≡ state
   pub open-state : (o : Outcome) → o ≡ openOutcome st d → (y : List ℕ) → y ≡ writtenBy (o .answer) xs (o .state) → y ≡ faceState xs (openOutcome (stateOf xs) d)
   open-state = whole-state xs h st p (λ (s : Writing). openOutcome s d)
 
-  pub open-octets : (e : List ℕ) → e ≡ openOctets st d → e ≡ faceOctets xs d (openOctets (stateOf xs) d)
+  pub open-octets : (e : List ℕ) → e ≡ openOctets st d → e ≡ spared 10 xs d (openOctets (stateOf xs) d)
   open-octets = whole-octets xs h st p (λ (s : Writing). openOctets s d) d
 
   pub close-number : (o : Outcome) → o ≡ closeOutcome st d → (r : ℕ) → r ≡ writtenNumber (o .answer) → r ≡ faceNumber xs (closeOutcome (stateOf xs) d)
@@ -278,7 +283,7 @@ module _ (xs : List ℕ) (h : 10 ≤ length xs) (st : Writing) (p : st ≡ state
   pub close-state : (o : Outcome) → o ≡ closeOutcome st d → (y : List ℕ) → y ≡ writtenBy (o .answer) xs (o .state) → y ≡ faceState xs (closeOutcome (stateOf xs) d)
   close-state = whole-state xs h st p (λ (s : Writing). closeOutcome s d)
 
-  pub close-octets : (e : List ℕ) → e ≡ closeOctets st d → e ≡ faceOctets xs d (closeOctets (stateOf xs) d)
+  pub close-octets : (e : List ℕ) → e ≡ closeOctets st d → e ≡ spared 10 xs d (closeOctets (stateOf xs) d)
   close-octets = whole-octets xs h st p (λ (s : Writing). closeOctets s d) d
 
   pub finish-number : (o : Outcome) → o ≡ finishOutcome st d → (r : ℕ) → r ≡ writtenNumber (o .answer) → r ≡ faceNumber xs (finishOutcome (stateOf xs) d)
@@ -287,7 +292,7 @@ module _ (xs : List ℕ) (h : 10 ≤ length xs) (st : Writing) (p : st ≡ state
   pub finish-state : (o : Outcome) → o ≡ finishOutcome st d → (y : List ℕ) → y ≡ writtenBy (o .answer) xs (o .state) → y ≡ faceState xs (finishOutcome (stateOf xs) d)
   finish-state = whole-state xs h st p (λ (s : Writing). finishOutcome s d)
 
-  pub finish-octets : (e : List ℕ) → e ≡ finishOctets st d → e ≡ faceOctets xs d (finishOctets (stateOf xs) d)
+  pub finish-octets : (e : List ℕ) → e ≡ finishOctets st d → e ≡ spared 10 xs d (finishOctets (stateOf xs) d)
   finish-octets = whole-octets xs h st p (λ (s : Writing). finishOctets s d) d
 
   pub give-number : (t : ℕ) (v : Given) (o : Outcome) → o ≡ giveOutcome st d t v → (r : ℕ) → r ≡ writtenNumber (o .answer) → r ≡ faceNumber xs (giveOutcome (stateOf xs) d t v)
@@ -296,7 +301,7 @@ module _ (xs : List ℕ) (h : 10 ≤ length xs) (st : Writing) (p : st ≡ state
   pub give-state : (t : ℕ) (v : Given) (o : Outcome) → o ≡ giveOutcome st d t v → (y : List ℕ) → y ≡ writtenBy (o .answer) xs (o .state) → y ≡ faceState xs (giveOutcome (stateOf xs) d t v)
   give-state t v = whole-state xs h st p (λ (s : Writing). giveOutcome s d t v)
 
-  pub give-octets : (t : ℕ) (v : Given) (e : List ℕ) → e ≡ giveOctets st d t v → e ≡ faceOctets xs d (giveOctets (stateOf xs) d t v)
+  pub give-octets : (t : ℕ) (v : Given) (e : List ℕ) → e ≡ giveOctets st d t v → e ≡ spared 10 xs d (giveOctets (stateOf xs) d t v)
   give-octets t v = whole-octets xs h st p (λ (s : Writing). giveOctets s d t v) d
 
   pub add-number : (v : Given) (o : Outcome) → o ≡ elementOutcome st d v → (r : ℕ) → r ≡ writtenNumber (o .answer) → r ≡ faceNumber xs (elementOutcome (stateOf xs) d v)
@@ -305,7 +310,7 @@ module _ (xs : List ℕ) (h : 10 ≤ length xs) (st : Writing) (p : st ≡ state
   pub add-state : (v : Given) (o : Outcome) → o ≡ elementOutcome st d v → (y : List ℕ) → y ≡ writtenBy (o .answer) xs (o .state) → y ≡ faceState xs (elementOutcome (stateOf xs) d v)
   add-state v = whole-state xs h st p (λ (s : Writing). elementOutcome s d v)
 
-  pub add-octets : (v : Given) (e : List ℕ) → e ≡ elementOctets st d v → e ≡ faceOctets xs d (elementOctets (stateOf xs) d v)
+  pub add-octets : (v : Given) (e : List ℕ) → e ≡ elementOctets st d v → e ≡ spared 10 xs d (elementOctets (stateOf xs) d v)
   add-octets v = whole-octets xs h st p (λ (s : Writing). elementOctets s d v) d
 
   pub begin-number : (ht hf ts fs : List ℕ) (o : Outcome) → o ≡ beginOutcome st ht hf ts fs d → (r : ℕ) → r ≡ writtenNumber (o .answer) → r ≡ faceNumber xs (beginOutcome (stateOf xs) ht hf ts fs d)
@@ -314,5 +319,44 @@ module _ (xs : List ℕ) (h : 10 ≤ length xs) (st : Writing) (p : st ≡ state
   pub begin-state : (ht hf ts fs : List ℕ) (o : Outcome) → o ≡ beginOutcome st ht hf ts fs d → (y : List ℕ) → y ≡ writtenBy (o .answer) xs (o .state) → y ≡ faceState xs (beginOutcome (stateOf xs) ht hf ts fs d)
   begin-state ht hf ts fs = whole-state xs h st p (λ (s : Writing). beginOutcome s ht hf ts fs d)
 
-  pub begin-octets : (ht hf ts fs : List ℕ) (e : List ℕ) → e ≡ beginOctets ht hf ts fs d → e ≡ faceOctets xs d (beginOctets ht hf ts fs d)
+  pub begin-octets : (ht hf ts fs : List ℕ) (e : List ℕ) → e ≡ beginOctets ht hf ts fs d → e ≡ spared 10 xs d (beginOctets ht hf ts fs d)
   begin-octets ht hf ts fs = whole-octets xs h st p (λ (s : Writing). beginOctets ht hf ts fs d) d
+
+-- ---- correcting
+
+module _ (d out : List ℕ) (c : Corrected) where
+  pub corrected-done : (n : ℕ) → c ≡ corrected.Done n → d ≡ stored out 0 (n ∷ []) → d ≡ stored out 0 (correctedValue c ∷ [])
+  corrected-done n q e = rw q e
+
+  pub corrected-refused : (r : Refusal) → c ≡ corrected.Refused r → d ≡ stored out 0 (r .place ∷ []) → d ≡ stored out 0 (correctedValue c ∷ [])
+  corrected-refused r q e = rw q e
+
+pub answer-done : (c : Corrected) (n : ℕ) → c ≡ corrected.Done n → 0 ≡ correctedNumber c
+answer-done c n q = rw q
+
+pub answer-refused : (c : Corrected) (r : Refusal) → c ≡ corrected.Refused r → r .number ≡ correctedNumber c
+answer-refused c r q = rw q
+
+module _ (out : List ℕ) (h : 1 ≤ length out) where
+  module _ (a c : Corrected) (q : c ≡ a) where
+    pub mended-number : (r : ℕ) → r ≡ correctedNumber c → r ≡ lent 1 out (correctedNumber a)
+    unfolding lent
+    mended-number r e = rw (le-ltb (length out) 1 h, ← q) e
+
+    pub mended-laid : (y : List ℕ) → y ≡ stored out 0 (correctedValue c ∷ []) → y ≡ laid 1 out (correctedValue a ∷ [])
+    unfolding laid
+    mended-laid y e = rw (le-ltb (length out) 1 h, ← q) e
+
+  pub mended-octets : (d x y : List ℕ) → y ≡ x → y ≡ spared 1 out d x
+  unfolding spared
+  mended-octets d x y q = rw (le-ltb (length out) 1 h) q
+
+  module _ (d : List ℕ) (len k t : ℕ) (v : Option (List ℕ)) (w : Which) (p : w ≡ whichOf k) where
+    pub set-number : (c : Corrected) → c ≡ setAnswer d len w t v → (r : ℕ) → r ≡ correctedNumber c → r ≡ lent 1 out (correctedNumber (setAnswer d len (whichOf k) t v))
+    set-number c q = mended-number (setAnswer d len (whichOf k) t v) c (rw (← p) q)
+
+    pub set-laid : (c : Corrected) → c ≡ setAnswer d len w t v → (y : List ℕ) → y ≡ stored out 0 (correctedValue c ∷ []) → y ≡ laid 1 out (correctedValue (setAnswer d len (whichOf k) t v) ∷ [])
+    set-laid c q = mended-laid (setAnswer d len (whichOf k) t v) c (rw (← p) q)
+
+    pub set-octets : (y : List ℕ) → y ≡ setOctets d len w t v → y ≡ spared 1 out d (setOctets d len (whichOf k) t v)
+    set-octets y q = mended-octets d (setOctets d len (whichOf k) t v) y (rw (← p) q)

@@ -15,3 +15,7 @@ lent n out answer = cond (ltb (length out) n) outOfTurn answer
 -- and what is left there
 unfoldable pub laid : ℕ → List ℕ → List ℕ → List ℕ
 laid n out values = cond (ltb (length out) n) out (stored out 0 values)
+
+-- the octets d, which such a call makes e
+unfoldable pub spared : ℕ → List ℕ → List ℕ → List ℕ → List ℕ
+spared n out d e = cond (ltb (length out) n) d e

@@ -8,7 +8,8 @@ ghost use mathlib.Core.Bool.{not};
 ghost use lib.Dec.{eqb};
 ghost use lib.ListN.{getD};
 ghost use Rattle.octets.specs.Splice.{stored};
-ghost use Rattle.face.specs.Calling.{formFrom, stageFrom, stateOf, fieldsOf, writtenNumber, writtenBy, faceNumber, faceState, faceOctets};
+ghost use Rattle.face.specs.Face.{spared};
+ghost use Rattle.face.specs.Calling.{formFrom, stageFrom, stateOf, fieldsOf, writtenNumber, writtenBy, faceNumber, faceState};
 ghost use Rattle.framing.specs.Frame.{openOutcome, openOctets, closeOutcome, closeOctets, finishOutcome, finishOctets};
 ghost use Rattle.giving.specs.Give.{Number, Truth, Octets, Count, giveOutcome, giveOctets, elementOutcome, elementOctets};
 ghost use Rattle.begin.specs.Begin.{beginOutcome, beginOctets};
@@ -111,7 +112,7 @@ pub extern "C" fn wt_begin(
 ) -> u32
     ensures { λ r. ⌜ (r ≡ faceNumber (now (state .entry)) (beginOutcome (stateOf (now (state .entry))) (now (htags .entry)) (now (hflags .entry)) (now (tags .entry)) (now (flags .entry)) (now (buf .entry))))
         × (now (state .exit) ≡ faceState (now (state .entry)) (beginOutcome (stateOf (now (state .entry))) (now (htags .entry)) (now (hflags .entry)) (now (tags .entry)) (now (flags .entry)) (now (buf .entry))))
-        × (now (buf .exit) ≡ faceOctets (now (state .entry)) (now (buf .entry)) (beginOctets (now (htags .entry)) (now (hflags .entry)) (now (tags .entry)) (now (flags .entry)) (now (buf .entry)))) ⌝ }
+        × (now (buf .exit) ≡ spared 10 (now (state .entry)) (now (buf .entry)) (beginOctets (now (htags .entry)) (now (hflags .entry)) (now (tags .entry)) (now (flags .entry)) (now (buf .entry)))) ⌝ }
 {
     if state.len() < 10 {
         return answers::OUT_OF_TURN;
@@ -125,7 +126,7 @@ pub extern "C" fn wt_begin(
 pub extern "C" fn wt_open(state: &mut [u64], buf: &mut [u8]) -> u32
     ensures { λ r. ⌜ (r ≡ faceNumber (now (state .entry)) (openOutcome (stateOf (now (state .entry))) (now (buf .entry))))
         × (now (state .exit) ≡ faceState (now (state .entry)) (openOutcome (stateOf (now (state .entry))) (now (buf .entry))))
-        × (now (buf .exit) ≡ faceOctets (now (state .entry)) (now (buf .entry)) (openOctets (stateOf (now (state .entry))) (now (buf .entry)))) ⌝ }
+        × (now (buf .exit) ≡ spared 10 (now (state .entry)) (now (buf .entry)) (openOctets (stateOf (now (state .entry))) (now (buf .entry)))) ⌝ }
 {
     if state.len() < 10 {
         return answers::OUT_OF_TURN;
@@ -139,7 +140,7 @@ pub extern "C" fn wt_open(state: &mut [u64], buf: &mut [u8]) -> u32
 pub extern "C" fn wt_close(state: &mut [u64], buf: &mut [u8]) -> u32
     ensures { λ r. ⌜ (r ≡ faceNumber (now (state .entry)) (closeOutcome (stateOf (now (state .entry))) (now (buf .entry))))
         × (now (state .exit) ≡ faceState (now (state .entry)) (closeOutcome (stateOf (now (state .entry))) (now (buf .entry))))
-        × (now (buf .exit) ≡ faceOctets (now (state .entry)) (now (buf .entry)) (closeOctets (stateOf (now (state .entry))) (now (buf .entry)))) ⌝ }
+        × (now (buf .exit) ≡ spared 10 (now (state .entry)) (now (buf .entry)) (closeOctets (stateOf (now (state .entry))) (now (buf .entry)))) ⌝ }
 {
     if state.len() < 10 {
         return answers::OUT_OF_TURN;
@@ -153,7 +154,7 @@ pub extern "C" fn wt_close(state: &mut [u64], buf: &mut [u8]) -> u32
 pub extern "C" fn wt_finish(state: &mut [u64], buf: &mut [u8]) -> u32
     ensures { λ r. ⌜ (r ≡ faceNumber (now (state .entry)) (finishOutcome (stateOf (now (state .entry))) (now (buf .entry))))
         × (now (state .exit) ≡ faceState (now (state .entry)) (finishOutcome (stateOf (now (state .entry))) (now (buf .entry))))
-        × (now (buf .exit) ≡ faceOctets (now (state .entry)) (now (buf .entry)) (finishOctets (stateOf (now (state .entry))) (now (buf .entry)))) ⌝ }
+        × (now (buf .exit) ≡ spared 10 (now (state .entry)) (now (buf .entry)) (finishOctets (stateOf (now (state .entry))) (now (buf .entry)))) ⌝ }
 {
     if state.len() < 10 {
         return answers::OUT_OF_TURN;
@@ -167,7 +168,7 @@ pub extern "C" fn wt_finish(state: &mut [u64], buf: &mut [u8]) -> u32
 pub extern "C" fn wt_give_number(state: &mut [u64], buf: &mut [u8], tag: u32, value: u32) -> u32
     ensures { λ r. ⌜ (r ≡ faceNumber (now (state .entry)) (giveOutcome (stateOf (now (state .entry))) (now (buf .entry)) tag (Number value)))
         × (now (state .exit) ≡ faceState (now (state .entry)) (giveOutcome (stateOf (now (state .entry))) (now (buf .entry)) tag (Number value)))
-        × (now (buf .exit) ≡ faceOctets (now (state .entry)) (now (buf .entry)) (giveOctets (stateOf (now (state .entry))) (now (buf .entry)) tag (Number value))) ⌝ }
+        × (now (buf .exit) ≡ spared 10 (now (state .entry)) (now (buf .entry)) (giveOctets (stateOf (now (state .entry))) (now (buf .entry)) tag (Number value))) ⌝ }
 {
     if state.len() < 10 {
         return answers::OUT_OF_TURN;
@@ -182,7 +183,7 @@ pub extern "C" fn wt_give_number(state: &mut [u64], buf: &mut [u8], tag: u32, va
 pub extern "C" fn wt_give_truth(state: &mut [u64], buf: &mut [u8], tag: u32, yes: u32) -> u32
     ensures { λ r. ⌜ (r ≡ faceNumber (now (state .entry)) (giveOutcome (stateOf (now (state .entry))) (now (buf .entry)) tag (Truth (not (eqb yes 0)))))
         × (now (state .exit) ≡ faceState (now (state .entry)) (giveOutcome (stateOf (now (state .entry))) (now (buf .entry)) tag (Truth (not (eqb yes 0)))))
-        × (now (buf .exit) ≡ faceOctets (now (state .entry)) (now (buf .entry)) (giveOctets (stateOf (now (state .entry))) (now (buf .entry)) tag (Truth (not (eqb yes 0))))) ⌝ }
+        × (now (buf .exit) ≡ spared 10 (now (state .entry)) (now (buf .entry)) (giveOctets (stateOf (now (state .entry))) (now (buf .entry)) tag (Truth (not (eqb yes 0))))) ⌝ }
 {
     if state.len() < 10 {
         return answers::OUT_OF_TURN;
@@ -197,7 +198,7 @@ pub extern "C" fn wt_give_truth(state: &mut [u64], buf: &mut [u8], tag: u32, yes
 pub extern "C" fn wt_give_octets(state: &mut [u64], buf: &mut [u8], tag: u32, s: &[u8]) -> u32
     ensures { λ r. ⌜ (r ≡ faceNumber (now (state .entry)) (giveOutcome (stateOf (now (state .entry))) (now (buf .entry)) tag (Octets (now (s .entry)))))
         × (now (state .exit) ≡ faceState (now (state .entry)) (giveOutcome (stateOf (now (state .entry))) (now (buf .entry)) tag (Octets (now (s .entry)))))
-        × (now (buf .exit) ≡ faceOctets (now (state .entry)) (now (buf .entry)) (giveOctets (stateOf (now (state .entry))) (now (buf .entry)) tag (Octets (now (s .entry))))) ⌝ }
+        × (now (buf .exit) ≡ spared 10 (now (state .entry)) (now (buf .entry)) (giveOctets (stateOf (now (state .entry))) (now (buf .entry)) tag (Octets (now (s .entry))))) ⌝ }
 {
     if state.len() < 10 {
         return answers::OUT_OF_TURN;
@@ -212,7 +213,7 @@ pub extern "C" fn wt_give_octets(state: &mut [u64], buf: &mut [u8], tag: u32, s:
 pub extern "C" fn wt_give_list(state: &mut [u64], buf: &mut [u8], tag: u32, count: u32) -> u32
     ensures { λ r. ⌜ (r ≡ faceNumber (now (state .entry)) (giveOutcome (stateOf (now (state .entry))) (now (buf .entry)) tag (Count count)))
         × (now (state .exit) ≡ faceState (now (state .entry)) (giveOutcome (stateOf (now (state .entry))) (now (buf .entry)) tag (Count count)))
-        × (now (buf .exit) ≡ faceOctets (now (state .entry)) (now (buf .entry)) (giveOctets (stateOf (now (state .entry))) (now (buf .entry)) tag (Count count))) ⌝ }
+        × (now (buf .exit) ≡ spared 10 (now (state .entry)) (now (buf .entry)) (giveOctets (stateOf (now (state .entry))) (now (buf .entry)) tag (Count count))) ⌝ }
 {
     if state.len() < 10 {
         return answers::OUT_OF_TURN;
@@ -226,7 +227,7 @@ pub extern "C" fn wt_give_list(state: &mut [u64], buf: &mut [u8], tag: u32, coun
 pub extern "C" fn wt_add_number(state: &mut [u64], buf: &mut [u8], value: u32) -> u32
     ensures { λ r. ⌜ (r ≡ faceNumber (now (state .entry)) (elementOutcome (stateOf (now (state .entry))) (now (buf .entry)) (Number value)))
         × (now (state .exit) ≡ faceState (now (state .entry)) (elementOutcome (stateOf (now (state .entry))) (now (buf .entry)) (Number value)))
-        × (now (buf .exit) ≡ faceOctets (now (state .entry)) (now (buf .entry)) (elementOctets (stateOf (now (state .entry))) (now (buf .entry)) (Number value))) ⌝ }
+        × (now (buf .exit) ≡ spared 10 (now (state .entry)) (now (buf .entry)) (elementOctets (stateOf (now (state .entry))) (now (buf .entry)) (Number value))) ⌝ }
 {
     if state.len() < 10 {
         return answers::OUT_OF_TURN;
@@ -240,7 +241,7 @@ pub extern "C" fn wt_add_number(state: &mut [u64], buf: &mut [u8], value: u32) -
 pub extern "C" fn wt_add_octets(state: &mut [u64], buf: &mut [u8], s: &[u8]) -> u32
     ensures { λ r. ⌜ (r ≡ faceNumber (now (state .entry)) (elementOutcome (stateOf (now (state .entry))) (now (buf .entry)) (Octets (now (s .entry)))))
         × (now (state .exit) ≡ faceState (now (state .entry)) (elementOutcome (stateOf (now (state .entry))) (now (buf .entry)) (Octets (now (s .entry)))))
-        × (now (buf .exit) ≡ faceOctets (now (state .entry)) (now (buf .entry)) (elementOctets (stateOf (now (state .entry))) (now (buf .entry)) (Octets (now (s .entry))))) ⌝ }
+        × (now (buf .exit) ≡ spared 10 (now (state .entry)) (now (buf .entry)) (elementOctets (stateOf (now (state .entry))) (now (buf .entry)) (Octets (now (s .entry))))) ⌝ }
 {
     if state.len() < 10 {
         return answers::OUT_OF_TURN;

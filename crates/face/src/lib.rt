@@ -4,3 +4,4 @@ mod calling;
 mod judging;
 mod laying;
 mod looking;
+mod mending;

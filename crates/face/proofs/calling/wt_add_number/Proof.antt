@@ -1,4 +1,4 @@
-use Rattle.face.specs.Cases.{short-number, short-state, short-octets, add-number, add-state, add-octets}
+use Rattle.face.specs.Cases.{short-number, short-state, short-spared, add-number, add-state, add-octets}
 use borrow.Author.Needs.{needs}
 use Rattle.face.proofs.calling.wt_add_number.Statement.{statement}
 use Rattle.face.proofs.calling.wt_add_number.Tie as tie
@@ -9,7 +9,7 @@ use Rattle.face.proofs.calling.unpack.Reads as unpack-reads
 use Rattle.giving.proofs.add_number.Reads as add-number-reads
 
 returns : tie.Need-returns
-returns c = (search short-number, search short-state, search short-octets)
+returns c = (search short-number, search short-state, search short-spared)
 
 unpack-requires : tie.Need-unpack-requires
 unpack-requires c κs = search needs

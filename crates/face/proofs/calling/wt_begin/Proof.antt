@@ -1,4 +1,4 @@
-use Rattle.face.specs.Cases.{short-number, short-state, short-octets, begin-number, begin-state, begin-octets}
+use Rattle.face.specs.Cases.{short-number, short-state, short-spared, begin-number, begin-state, begin-octets}
 use borrow.Author.Needs.{needs}
 use Rattle.face.proofs.calling.wt_begin.Statement.{statement}
 use Rattle.face.proofs.calling.wt_begin.Tie as tie
@@ -9,7 +9,7 @@ use Rattle.face.proofs.calling.settle.Reads as settle-reads
 use Rattle.face.proofs.calling.unpack.Reads as unpack-reads
 
 returns : tie.Need-returns
-returns c = (search short-number, search short-state, search short-octets)
+returns c = (search short-number, search short-state, search short-spared)
 
 unpack-requires : tie.Need-unpack-requires
 unpack-requires c κs = search needs

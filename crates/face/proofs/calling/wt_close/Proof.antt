@@ -1,4 +1,4 @@
-use Rattle.face.specs.Cases.{short-number, short-state, short-octets, close-number, close-state, close-octets}
+use Rattle.face.specs.Cases.{short-number, short-state, short-spared, close-number, close-state, close-octets}
 use borrow.Author.Needs.{needs}
 use Rattle.face.proofs.calling.wt_close.Statement.{statement}
 use Rattle.face.proofs.calling.wt_close.Tie as tie
@@ -9,7 +9,7 @@ use Rattle.face.proofs.calling.unpack.Reads as unpack-reads
 use Rattle.framing.proofs.close.Reads as close-reads
 
 returns : tie.Need-returns
-returns c = (search short-number, search short-state, search short-octets)
+returns c = (search short-number, search short-state, search short-spared)
 
 unpack-requires : tie.Need-unpack-requires
 unpack-requires c κs = search needs

@@ -1,4 +1,4 @@
-use Rattle.face.specs.Cases.{short-number, short-state, short-octets, finish-number, finish-state, finish-octets}
+use Rattle.face.specs.Cases.{short-number, short-state, short-spared, finish-number, finish-state, finish-octets}
 use borrow.Author.Needs.{needs}
 use Rattle.face.proofs.calling.wt_finish.Statement.{statement}
 use Rattle.face.proofs.calling.wt_finish.Tie as tie
@@ -9,7 +9,7 @@ use Rattle.face.proofs.calling.unpack.Reads as unpack-reads
 use Rattle.framing.proofs.finish.Reads as finish-reads
 
 returns : tie.Need-returns
-returns c = (search short-number, search short-state, search short-octets)
+returns c = (search short-number, search short-state, search short-spared)
 
 unpack-requires : tie.Need-unpack-requires
 unpack-requires c κs = search needs

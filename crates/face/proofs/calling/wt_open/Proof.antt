@@ -1,4 +1,4 @@
-use Rattle.face.specs.Cases.{short-number, short-state, short-octets, open-number, open-state, open-octets}
+use Rattle.face.specs.Cases.{short-number, short-state, short-spared, open-number, open-state, open-octets}
 use borrow.Author.Needs.{needs}
 use Rattle.face.proofs.calling.wt_open.Statement.{statement}
 use Rattle.face.proofs.calling.wt_open.Tie as tie
@@ -9,7 +9,7 @@ use Rattle.face.proofs.calling.unpack.Reads as unpack-reads
 use Rattle.framing.proofs.open.Reads as open-reads
 
 returns : tie.Need-returns
-returns c = (search short-number, search short-state, search short-octets)
+returns c = (search short-number, search short-state, search short-spared)
 
 unpack-requires : tie.Need-unpack-requires
 unpack-requires c κs = search needs
