@@ -1,0 +1,6 @@
+pub mod Face
+pub mod Judging
+pub mod Looking
+pub mod Calling
+pub mod Mending
+pub mod Cases
