@@ -146,7 +146,7 @@ def correcting(folder, rng):
             tag, value = make.least(rest[:4]), rest[4:]
             kind = oab.type_of(tag)
             words = ['set', path, record, f'{tag:08X}']
-            if oab.walk(kind, value) == len(value) and rng.random() < 0.7:
+            if kind in oab.TYPES and oab.walk(kind, value) == len(value) and rng.random() < 0.7:
                 words += offered(kind, value)
             else:
                 words, stdin = ['set', '--raw'] + words[1:], value
