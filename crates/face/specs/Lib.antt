@@ -3,4 +3,5 @@ pub mod Judging
 pub mod Looking
 pub mod Calling
 pub mod Mending
+pub mod Carried
 pub mod Cases
