@@ -17,7 +17,7 @@ use Rattle.table.specs.Columns.{tagsOf}
 use Rattle.table.specs.declared.Found.{Found}
 use Rattle.table.specs.declared.Found.the-variants.{At, Nothing}
 use Rattle.table.specs.Found.{isFound, columnOf}
-use Rattle.entry.specs.Record.{Slot, SoundEntry, SoundRow}
+use Rattle.entry.specs.Record.{Slot, SoundEntry, SoundRow, noSlot}
 use Rattle.book.specs.Book.{Book, Sound, slots-long, rowSlots, bookOctets, headsIn, colsIn, countIn}
 use Rattle.book.specs.Whole.{heads-in, cols-in, body-in, count-in}
 use Rattle.lookup.specs.Places.{sound-at}
@@ -28,7 +28,7 @@ use Rattle.lookup.specs.declared.Which.the-variants.{Header, Number}
 use Rattle.editing.specs.Put.{slotsFor}
 use Rattle.editing.specs.Offered.{offered-value}
 use Rattle.editing.specs.Done.{There, slotsUnder, slots-in}
-use Rattle.correcting.specs.Correct.{fits, losing, noSlot, columnFor, slotFor, hasRecord}
+use Rattle.correcting.specs.Correct.{fits, losing, columnFor, slotFor, hasRecord}
 
 -- ---- the book's own
 

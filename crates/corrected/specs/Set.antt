@@ -15,7 +15,7 @@ use Rattle.table.specs.Columns.{tagsOf}
 use Rattle.table.specs.declared.Found.{Found}
 use Rattle.table.specs.declared.Found.the-variants.{At}
 use Rattle.table.specs.Found.{isFound, columnOf}
-use Rattle.entry.specs.Record.{Slot, SoundEntry}
+use Rattle.entry.specs.Record.{Slot, SoundEntry, noSlot}
 use Rattle.book.specs.Book.{Book, bookOctets}
 use Rattle.lookup.specs.Look.{columnIn}
 use Rattle.lookup.specs.Laws.{column-in}
@@ -23,7 +23,7 @@ use Rattle.lookup.specs.Tagged.{columnsFor}
 use Rattle.lookup.specs.declared.Which.{Which}
 use Rattle.editing.specs.Put.{setIn}
 use Rattle.editing.specs.Done.{There, slotsUnder, setTo, set-is, set-sound}
-use Rattle.correcting.specs.Correct.{bookAt, fits, losing, noSlot, columnFor, slotFor, hasRecord, entryAt, setAt, setBook, setAnswer, setOctets}
+use Rattle.correcting.specs.Correct.{bookAt, fits, losing, columnFor, slotFor, hasRecord, entryAt, setAt, setBook, setAnswer, setOctets}
 use Rattle.correcting.specs.declared.Corrected.the-variants as corrected
 use Rattle.corrected.specs.Named.{named-in, has-named, column-for, slot-for, found-is, Offers, entry-sound, entry-fits, entry-keeps}
 use Rattle.corrected.specs.Call.{BookIn, book-may, book-good, room-may, room-good, answered-done, done-answered, Corrects, corrects}

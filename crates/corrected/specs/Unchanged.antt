@@ -16,7 +16,7 @@ use Rattle.table.specs.Columns.{tagsOf}
 use Rattle.table.specs.declared.Found.{Found}
 use Rattle.table.specs.declared.Found.the-variants.{At, Nothing}
 use Rattle.entry.specs.Present.{Row}
-use Rattle.entry.specs.Record.{Slot, SoundEntry, SoundRow}
+use Rattle.entry.specs.Record.{Slot, SoundEntry, SoundRow, noSlot}
 use Rattle.book.specs.Book.{Book, bookOctets, judge}
 use Rattle.book.specs.Whole.{judge-sound}
 use Rattle.lookup.specs.Look.{columnIn, lookIn, lookBy, lookupOf, stretchOf}
@@ -28,7 +28,7 @@ use Rattle.lookup.specs.declared.Looked.the-variants as looked
 use Rattle.editing.specs.Put.{bufferOf}
 use Rattle.editing.specs.Entry.{entryAt}
 use Rattle.editing.specs.Done.{There, slotsUnder, setTo, set-same}
-use Rattle.correcting.specs.Correct.{answered, noSlot, setAt, setBook, setAnswer, setOctets, insertAt, insertBook, insertAnswer, insertOctets, deleteAt, deleteBook, deleteAnswer, deleteOctets}
+use Rattle.correcting.specs.Correct.{answered, setAt, setBook, setAnswer, setOctets, insertAt, insertBook, insertAnswer, insertOctets, deleteAt, deleteBook, deleteAnswer, deleteOctets}
 use Rattle.correcting.specs.declared.Corrected.the-variants as corrected
 use Rattle.corrected.specs.Buffer.{buffer-same}
 use Rattle.corrected.specs.Named.{row-sound, slots-reach}

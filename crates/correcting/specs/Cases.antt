@@ -4,9 +4,9 @@ use native.Mathlib.Omega.{arith}
 use native.Mathlib.Nat.{add-zero, sub-zero}
 use mathlib.Core.Path.{_≡_, refl, sym, ap, _∙_}
 use mathlib.Core.Bool.{Bool, true, false, not}
-use mathlib.Core.Option.{Option, none, some}
+use mathlib.Core.Option.{Option}
 use mathlib.Core.List.{List, []}
-use lib.ListN.{length, getD, take, drop, replicate, length-append, length-drop, length-set}
+use lib.ListN.{length, getD, take, drop, replicate, length-append, length-drop}
 use lib.Seq.{getD-drop, drop-drop, length-take-le}
 use borrow.Author.Tests.{le-leb, lt-leb, lt-ltb, le-ltb, ltb-true, eq-eqb, ne-eqb}
 use Rattle.octets.specs.Word.{leOf, wordOf, length-leOf}
@@ -17,7 +17,7 @@ use Rattle.answers.specs.declared.Verdict.the-variants.{Clear as clear, Refused
 use Rattle.answers.specs.Verdict.{refused, _then_, need, no-clear, apart, unmet, then-assoc}
 use Rattle.answers.specs.declared.Walk.{Walk}
 use Rattle.answers.specs.declared.Walk.the-variants.{Ends, Broken}
-use Rattle.presence.specs.Presence.{room, setBit, clearBit}
+use Rattle.presence.specs.Presence.{room}
 use Rattle.value.specs.Types.{formAt}
 use Rattle.value.specs.Value.{valueOf}
 use Rattle.table.specs.Table.{Column}
@@ -25,7 +25,7 @@ use Rattle.table.specs.Columns.{tagsOf, bitsOf, columnsIn, bits-long}
 use Rattle.table.specs.declared.Found.{Found}
 use Rattle.table.specs.declared.Found.the-variants.{At, Nothing}
 use Rattle.table.specs.Found.{isFound, columnOf}
-use Rattle.entry.specs.Record.{Slot, presentIn}
+use Rattle.entry.specs.Record.{Slot, presentIn, noSlot}
 use Rattle.entry.specs.Slots.{keyBit, slot, slotsFrom, slots-many, slots-next}
 use Rattle.book.specs.Book.{slots-long, headsIn, colsIn, recordsPlace, countIn, judge, sealed-length}
 use Rattle.book.specs.Judged.{judgedOf}
@@ -40,15 +40,16 @@ use Rattle.lookup.specs.Laws.{column-below}
 use Rattle.lookup.specs.Values.{entryOctets}
 use Rattle.lookup.specs.declared.Which.{Which}
 use Rattle.lookup.specs.declared.Which.the-variants.{Header, Number}
-use Rattle.editing.specs.Put.{put, bufferOf, resealed, mark, spliced, spotIn, setAt, slotsFor, startFor, setIn}
+use Rattle.editing.specs.Put.{put, resealed, mark, spliced, spotIn, setAt, slotsFor, startFor, setIn}
 use Rattle.editing.specs.InPlace.{roomIn, room-keeps, offered, put-length, word-taken}
 use Rattle.editing.specs.Fits.{entryBehind, entry-fit}
 use Rattle.editing.specs.Stands.{Stands, header-stands, number-stands}
 use Rattle.editing.specs.declared.Cell.{Cell}
-use Rattle.correcting.specs.Correct.{bookAt, roomFor, fits, losing, noSlot, columnFor, slotFor, hasRecord, entryAt, setAt as setVerdict, setBook, setAnswer, setOctets}
+use Rattle.correcting.specs.Correct.{bookAt, roomFor, fits, losing, columnFor, slotFor, hasRecord, entryAt, setAt as setVerdict, setBook, setAnswer, setOctets}
 use Rattle.correcting.specs.Find.{cellAt, cell-free, Lies, cell-lies}
 use Rattle.correcting.specs.declared.Plan.{Plan}
 use Rattle.correcting.specs.declared.Corrected.the-variants as corrected
+use Rattle.editing.specs.Entry.{mark-length}
 
 -- ---- what is decided before anything is written
 
@@ -95,11 +96,6 @@ module _ (form flags : ℕ) (v : List ℕ) (t : Bool) where
 pub ruleset entries = (entry-broken, entry-longer, entry-good, entry-key, entry-free)
 
 -- ---- how long the corrected book is
-
-mark-length : (e : Option (List ℕ)) (p : List ℕ) (i : ℕ) → length (mark e p i) ≡ length p
-unfolding setBit clearBit
-mark-length none p i = length-set p _ _
-mark-length (some v) p i = length-set p _ _
 
 pub spliced-length : (at n i v o size : ℕ) (e : Option (List ℕ)) (p xs : List ℕ) → length p ≡ room n → at + 4 + room n ≤ v → v + o ≤ length xs
     → length (spliced at n i v o size e p xs) ≡ length xs - o + length (entryOctets e)

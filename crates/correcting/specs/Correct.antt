@@ -1,6 +1,6 @@
 -- Correcting a book where it stands (document 01, "Correcting a book"; readings 19 to 22): the verdict of each call in the published order (15 for the stated
 -- length, the book's own, then 15, 18, 16, 17), its answer, and every octet of the buffer. A book of len octets stands at the front of the buffer d.
-use Prim.Native.Nat.{ℕ, _+_}
+use Prim.Native.Nat.{ℕ}
 use mathlib.Core.Bool.{Bool, true, false, not}
 use mathlib.Core.Option.{Option, none, some}
 use mathlib.Core.List.{List, []}
@@ -12,12 +12,11 @@ use Rattle.answers.specs.declared.Verdict.{Verdict}
 use Rattle.answers.specs.declared.Verdict.the-variants.{Clear as clear, Refused}
 use Rattle.answers.specs.Verdict.{_then_, need, kept}
 use Rattle.answers.specs.Walk.{endsAt}
-use Rattle.value.specs.Types.{unknown}
 use Rattle.value.specs.Value.{valueOf}
 use Rattle.table.specs.Columns.{tagsOf}
 use Rattle.table.specs.declared.Found.{Found}
 use Rattle.table.specs.Found.{isFound, columnOf}
-use Rattle.entry.specs.Record.{Slot, isClear, recordAt, keysAt, freed, presentIn}
+use Rattle.entry.specs.Record.{Slot, isClear, recordAt, keysAt, freed, presentIn, noSlot}
 use Rattle.book.specs.Book.{rowSlots, headsIn, colsIn, countIn, judge}
 use Rattle.lookup.specs.Look.{columnIn}
 use Rattle.lookup.specs.declared.Which.{Which}
@@ -53,9 +52,6 @@ fits (some v) s = endsAt (valueOf (s .form) v) (length v)
 abbrev pub losing : Option (List ℕ) → Slot → Bool
 losing none s = s .must
 losing (some v) s = false
-
-abbrev pub noSlot : Slot
-noSlot = record { form = unknown; must = false }
 
 -- the column with a whole tag, in the table of the named record
 abbrev pub columnFor : List ℕ → Which → ℕ → Found

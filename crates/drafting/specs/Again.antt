@@ -33,9 +33,9 @@ use Rattle.drafting.specs.Open.{blankRow, openRecord, blank-record, open
 use Rattle.drafting.specs.Spell.{Spelling, value-spelled}
 use Rattle.drafting.specs.Start.{Tags, flagsOf, openColumns, begin-clear, from-plain, keys-asked}
 use Rattle.drafting.specs.Draft.{Part, closedOctets, openSlots, formIn, Between, Inside}
-use Rattle.drafting.specs.Turns.{closed-long, between-idle, inside-taken, columns-open}
+use Rattle.drafting.specs.Turns.{closed-long, between-idle, inside-taken, columns-open, behind-start}
 use Rattle.drafting.specs.Gives.{given-long}
-use Rattle.drafting.specs.Keeps.{slots-open, opening, open-keeps, close-keeps, keys-front, behind-start, present-at, row-open, rows-snoc}
+use Rattle.drafting.specs.Keeps.{slots-open, opening, open-keeps, close-keeps, keys-front, present-at, row-open, rows-snoc}
 use Rattle.drafting.specs.Finish.{begin-keeps, finish-is}
 use Rattle.drafting.specs.Run.{Call, Open, Close}
 use Rattle.drafting.specs.Written.{Stand, after, run, begun}

@@ -28,7 +28,7 @@ mark-same : (e : Option (List ℕ)) (p : List ℕ) (i : ℕ) → i / 8 < length 
 mark-same none p i h = ap (λ (x : ℕ). eqb x 1) (clear-same p i h)
 mark-same (some v) p i h = ap (λ (x : ℕ). eqb x 1) (set-same p i h)
 
-mark-length : (e : Option (List ℕ)) (p : List ℕ) (i : ℕ) → length (mark e p i) ≡ length p
+pub mark-length : (e : Option (List ℕ)) (p : List ℕ) (i : ℕ) → length (mark e p i) ≡ length p
 mark-length none p i = length-clearBit p i
 mark-length (some v) p i = length-setBit p i
 

@@ -4,8 +4,8 @@ use Prim.Native.Nat.{ℕ, _+_, _-_, _≤_, _<_}
 use native.Mathlib.Omega.{arith}
 use mathlib.Core.Path.{_≡_, refl, sym, ap, _∙_}
 use mathlib.Core.Bool.{Bool, true, false, cond}
-use mathlib.Core.Option.{Option, none, some}
-use mathlib.Core.List.{List, []}
+use mathlib.Core.Option.{Option}
+use mathlib.Core.List.{List}
 use lib.Dec.{eqb, ltb, leb}
 use lib.ListN.{length, take, drop}
 use borrow.Author.Tests.{lt-ltb, le-ltb, le-leb, eq-eqb, ltb-false, leb-true, eqb-true}
@@ -17,10 +17,7 @@ use Rattle.lookup.specs.Values.{entryOctets}
 use Rattle.editing.specs.Put.{put, bufferOf, resealed, spliced}
 use Rattle.editing.specs.InPlace.{offered}
 use Rattle.editing.specs.declared.Cell.{Cell}
-
-passed : (t x : Bool) → cond t false x ≡ true → (t ≡ false) × (x ≡ true)
-passed true x e = absurd (let q : _≡_ {A = ℕ} 0 1 = cc in omega arith)
-passed false x e = (refl, e)
+use Rattle.octets.specs.Cases.{passed}
 
 -- ---- records
 

@@ -19,7 +19,7 @@ use Rattle.answers.specs.Verdict.{refused, _then_, need, no-clear, both, apart,
 use Rattle.answers.specs.declared.Walk.{Walk}
 use Rattle.answers.specs.declared.Walk.the-variants.{Ends, Broken}
 use Rattle.presence.specs.Presence.{room, isSet, spareClear}
-use Rattle.value.specs.Types.{Form}
+use Rattle.value.specs.Types.{Form, unknown}
 use Rattle.value.specs.Value.{valueOf}
 use Rattle.value.specs.Form.{IsValue, value-back, value-sound, value-one, Stands}
 use Rattle.entry.specs.Present.{Row, there, presenceOf, Bits, presence-length, presence-octets, presence-bits, presence-spare, presence-one}
@@ -28,6 +28,10 @@ use Rattle.entry.specs.Present.{Row, there, presenceOf, Bits, presence-l
 pub record Slot : Type 0 where
   pub form : Form
   pub must : Bool
+
+-- where there is no column
+abbrev pub noSlot : Slot
+noSlot = record { form = unknown; must = false }
 
 -- what follows a value that starts at p; where it breaks is counted from there
 abbrev pub walked : Walk → ℕ → (ℕ → Verdict) → Verdict

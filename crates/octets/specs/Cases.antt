@@ -25,3 +25,8 @@ taken false a b c e f g = g refl e
 pub same-either : {A : Type 0} (t : Bool) (a : A) → cond t a a ≡ a
 same-either true a = refl
 same-either false a = refl
+
+-- a test that was passed on the way to true
+pub passed : (t x : Bool) → cond t false x ≡ true → (t ≡ false) × (x ≡ true)
+passed true x e = absurd (let q : _≡_ {A = ℕ} 0 1 = cc in omega arith)
+passed false x e = (refl, e)

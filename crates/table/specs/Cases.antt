@@ -231,7 +231,7 @@ module _ (t : Table) (at : ℕ) (f : Found) (g : f ≡ repeatOf (take (t .column
 pub ruleset settles = (settle-repeat, settle-stop, settle-good)
 
 -- the arrays' length
-padded-long : (xs : List ℕ) → length xs ≤ 128 → length (padded xs) ≡ 128
+pub padded-long : (xs : List ℕ) → length xs ≤ 128 → length (padded xs) ≡ 128
 padded-long xs h = length-append xs _ ∙ rw (length-replicate {A = ℕ} (128 - length xs) 0) (omega arith)
 
 module _ (t : Table) (n at : ℕ) (xs : List ℕ) (q : t ≡ filledTo n at xs) (h : t .columns .count ≤ n) (k : n ≤ 128) where

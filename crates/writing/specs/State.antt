@@ -1,10 +1,9 @@
 -- Whose turn it is (document 01, "Writing a book"; readings 14, 16 and 17): which states a call takes up within a buffer of n octets, and what a verdict on
 -- a call makes of state and octets.
-use Prim.Native.Nat.{ℕ, _+_, _-_, _*_, _/_, _≤_, _<_}
+use Prim.Native.Nat.{ℕ, _+_, _-_, _*_, _≤_, _<_}
 use native.Mathlib.Omega.{arith}
-use mathlib.Core.Path.{_≡_, refl, sym, ap, _∙_}
+use mathlib.Core.Path.{_≡_, refl, sym, _∙_}
 use mathlib.Core.Bool.{Bool, true, false, cond}
-use mathlib.Core.List.{List}
 use lib.Dec.{ltb, leb, eqb}
 use borrow.Author.Tests.{lt-ltb, le-ltb, le-leb, lt-leb, eq-eqb, ne-eqb, ltb-false, leb-true, eqb-true, eqb-false}
 use Rattle.answers.specs.Numbers.{breaksRule, noRoom, mostOctets}
@@ -15,8 +14,8 @@ use Rattle.answers.specs.declared.Refusal.{Refusal}
 use Rattle.presence.specs.Presence.{room}
 use Rattle.writing.specs.declared.Writing.{Writing}
 use Rattle.writing.specs.declared.Outcome.{Outcome}
-use Rattle.writing.specs.declared.Written.{Written}
 use Rattle.writing.specs.declared.Written.the-variants as written
+use Rattle.octets.specs.Cases.{passed}
 
 -- ---- what a verdict makes of a call
 
@@ -76,10 +75,6 @@ roomAt w n k =
     then need (leb (w + k) n) noRoom 0
 
 -- ---- what a state that is taken up keeps to
-
-passed : (t x : Bool) → cond t false x ≡ true → (t ≡ false) × (x ≡ true)
-passed true x e = absurd (let q : _≡_ {A = ℕ} 0 1 = cc in omega arith)
-passed false x e = (refl, e)
 
 pub both-true : (t x : Bool) → cond t x false ≡ true → (t ≡ true) × (x ≡ true)
 both-true true x e = (refl, e)
