@@ -119,7 +119,7 @@ def reading(folder, rng):
         answer = oab.judge(octets)
         says('check', path, answer, run('check', path), f'{path}: good, {len(octets)} octets, {len(table[3])} records\n'.encode())
         says('list', path, answer, run('list', path), oab.listing(octets).encode())
-        differs('list -', run('list', path)[1], run('list', '-', stdin=octets)[1])
+        says('list -', '-', answer, run('list', '-', stdin=octets), oab.listing(octets).encode())
         flags = {0: '', 1: ' index', 2: ' key', 3: ' index key'}
         kinds = dict(zip(oab.TYPES, ('number', 'yes-or-no', 'nothing', 'narrow', 'text', 'binary', 'numbers', 'narrows', 'texts', 'binaries')))
         lines = ''.join(f'{kind} {i} {tag:08X} {kinds[oab.type_of(tag)]}{flags[bits & 3]}\n'
