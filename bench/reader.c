@@ -1,22 +1,6 @@
 /* The plain reader: one pass, octet by octet, every length tested before a read; the serial by bit steps and by a table of 256 words.
    Refusals, their order and their places are those that the library's contracts state. */
-#include "reader.h"
-
-#define MOST_OCTETS 16777216u
-#define MOST_RECORDS 65535u
-#define MOST_COLUMNS 128u
-
-struct columns {
-    size_t count;
-    uint32_t tags[MOST_COLUMNS];
-    uint8_t keys[MOST_COLUMNS];
-    uint8_t forms[MOST_COLUMNS];
-};
-
-struct tables {
-    struct columns header, address;
-    size_t at; /* of the header record */
-};
+#include "plain.h"
 
 static const struct refusal none = {0, 0};
 
@@ -55,11 +39,7 @@ uint32_t plain_serial_table(const uint8_t *s, size_t n) {
 
 /* ---- values: how many octets one takes, 0 where it is broken (no value is empty) */
 
-static uint32_t word32(const uint8_t *s) {
-    return (uint32_t)s[0] | (uint32_t)s[1] << 8 | (uint32_t)s[2] << 16 | (uint32_t)s[3] << 24;
-}
-
-static size_t read_number(const uint8_t *s, size_t n, uint32_t *value) {
+size_t read_number(const uint8_t *s, size_t n, uint32_t *value) {
     if (n < 1) return 0;
     if (s[0] < 128) {
         *value = s[0];
@@ -81,26 +61,45 @@ static size_t narrow(const uint8_t *s, size_t n) {
     return i < n && 0 < i ? i + 1 : 0;
 }
 
+/* a character that isn't ASCII, 0 where it is broken */
+static inline size_t character(const uint8_t *s, size_t n) {
+    uint8_t a = s[0];
+    if (a < 0xC2 || 0xF4 < a) return 0;
+    size_t k = a < 0xE0 ? 2 : a < 0xF0 ? 3 : 4;
+    if (n < k) return 0;
+    uint8_t lo = a == 0xE0 ? 0xA0 : a == 0xF0 ? 0x90 : 0x80;
+    uint8_t hi = a == 0xED ? 0x9F : a == 0xF4 ? 0x8F : 0xBF;
+    if (s[1] < lo || hi < s[1]) return 0;
+    for (size_t j = 2; j < k; j++)
+        if (s[j] < 0x80 || 0xBF < s[j]) return 0;
+    return k;
+}
+
 static size_t utf8(const uint8_t *s, size_t n) {
     size_t i = 0;
     while (i < n) {
-        uint8_t a = s[i];
-        if (a == 0) return 0 < i ? i + 1 : 0;
-        if (a < 0x80) {
-            i++;
-            continue;
-        }
-        if (a < 0xC2 || 0xF4 < a) return 0;
-        size_t k = a < 0xE0 ? 2 : a < 0xF0 ? 3 : 4;
-        if (n - i < k) return 0;
-        uint8_t lo = a == 0xE0 ? 0xA0 : a == 0xF0 ? 0x90 : 0x80;
-        uint8_t hi = a == 0xED ? 0x9F : a == 0xF4 ? 0x8F : 0xBF;
-        if (s[i + 1] < lo || hi < s[i + 1]) return 0;
-        for (size_t j = 2; j < k; j++)
-            if (s[i + j] < 0x80 || 0xBF < s[i + j]) return 0;
+        if (s[i] == 0) return 0 < i ? i + 1 : 0;
+        size_t k = s[i] < 0x80 ? 1 : character(s + i, n - i);
+        if (k == 0) return 0;
         i += k;
     }
     return 0;
+}
+
+int is_narrow(const uint8_t *s, size_t n) {
+    for (size_t i = 0; i < n; i++)
+        if (s[i] == 0) return 0;
+    return 0 < n;
+}
+
+int is_utf8(const uint8_t *s, size_t n) {
+    for (size_t i = 0; i < n;) {
+        if (s[i] == 0) return 0;
+        size_t k = s[i] < 0x80 ? 1 : character(s + i, n - i);
+        if (k == 0) return 0;
+        i += k;
+    }
+    return 0 < n;
 }
 
 static size_t element(uint8_t kind, const uint8_t *s, size_t n) {
@@ -123,7 +122,7 @@ static size_t element(uint8_t kind, const uint8_t *s, size_t n) {
     }
 }
 
-static size_t value(uint8_t form, const uint8_t *s, size_t n) {
+size_t value(uint8_t form, const uint8_t *s, size_t n) {
     if (form < 8) return element(form, s, n);
     uint32_t count;
     size_t i = read_number(s, n, &count);
@@ -138,7 +137,7 @@ static size_t value(uint8_t form, const uint8_t *s, size_t n) {
 
 /* ---- tables */
 
-static uint8_t form_of(uint32_t tag) {
+uint8_t form_of(uint32_t tag) {
     switch (tag & 0xFFFF) {
     case 0x0003: return 1;
     case 0x000B: return 2;
@@ -207,9 +206,7 @@ static struct refusal read_tables(const uint8_t *book, size_t n, struct tables *
 
 /* ---- records */
 
-static int present(const uint8_t *p, size_t i) { return p[i / 8] >> (7 - i % 8) & 1; }
-
-static struct refusal judge_record(const uint8_t *book, size_t n, size_t at, const struct columns *t, int keys, size_t *size) {
+struct refusal judge_record(const uint8_t *book, size_t n, size_t at, const struct columns *t, int keys, size_t *size) {
     if (n <= at) return refuse(13, 8);
     if (n - at < 4) return refuse(2, at);
     size_t end = word32(book + at);
@@ -232,7 +229,7 @@ static struct refusal judge_record(const uint8_t *book, size_t n, size_t at, con
     return i < end ? refuse(12, i) : none;
 }
 
-static struct refusal judge_with(const uint8_t *book, size_t n, struct tables *t) {
+struct refusal judge_with(const uint8_t *book, size_t n, struct tables *t) {
     struct refusal r = read_tables(book, n, t);
     if (r.number) return r;
     size_t at = t->at, size;

@@ -76,6 +76,9 @@ uint32_t wt_columns(const uint8_t *book, size_t octets, uint32_t address, uint32
 /* The value of a record under a whole tag: whether there is one, and where its encoding starts and ends. */
 uint32_t wt_lookup(const uint8_t *book, size_t octets, uint64_t record, uint32_t tag, uint64_t *out, size_t outs);
 
+/* The serial of a book whose octets from 12 on are these; it answers no refusal. */
+uint32_t wt_serial(const uint8_t *octets, size_t count);
+
 /* ---- correcting: a book of `length` octets stands at the front of the buffer. out[0] is the new length; octets from
  * the new length up to the old become zero. */
 

@@ -1,4 +1,4 @@
-// A book judged, and the columns of its tables.
+// A book judged, the columns of its tables, and the serial of any octets.
 use crate::laying::lay;
 use crate::laying::lay_halves;
 use book::Judged;
@@ -7,6 +7,7 @@ use table::Columns;
 ghost use mathlib.Core.Path.{_≡_};
 ghost use mathlib.Core.List.{[], _∷_};
 ghost use Rattle.octets.specs.Splice.{stored};
+ghost use Rattle.serial.specs.Serial.{serialOf};
 ghost use Rattle.book.specs.Judged.{judgedOf};
 ghost use Rattle.face.specs.Face.{lent, laid};
 ghost use Rattle.face.specs.Judging.{judgedNumber, judgedValues, tableOf, shortOf, columnsValues, columnsIn, columnsAnswer, columnsTags, columnsFlags, columnsOut};
@@ -144,4 +145,12 @@ pub extern "C" fn wt_columns(
     let j = book::judge(book);
     lay_columns(j, address, tags, flags, out);
     judgement_number(j)
+}
+
+// The serial that a book has whose octets from 12 on are these.
+#[no_mangle]
+pub extern "C" fn wt_serial(s: &[u8]) -> u32
+    ensures { λ r. ⌜ r ≡ serialOf (now (s .entry)) ⌝ }
+{
+    serial::serial_of(s)
 }

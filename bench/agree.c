@@ -1,0 +1,159 @@
+/* Books of each shape: good, with one octet changed, cut short, corrected at random, and written again. */
+#include "agree.h"
+#include "../include/windtrellis.h"
+#include "books.h"
+#include "corrector.h"
+#include "replay.h"
+#include <stdio.h>
+#include <stdlib.h>
+#include <string.h>
+
+static unsigned judged, mended, differ, met[19], answers[19];
+static uint32_t seed;
+
+static uint32_t chance(uint32_t below) {
+    seed = seed * 1664525u + 1013904223u;
+    return (seed >> 8) % below;
+}
+
+static void compare(const struct book *b) {
+    uint64_t out[WT_JUDGED], found[WT_FOUND];
+    struct refusal r = plain_judge(b->octets, b->length);
+    size_t k = b->records - 1;
+    struct stretch s = plain_lookup(b->octets, b->length, k, b->tag);
+    judged++;
+    met[r.number]++;
+    uint32_t number = wt_judge(b->octets, b->length, out, WT_JUDGED);
+    if (number != r.number || (number && out[WT_PLACE] != r.place)) differ++;
+    int there = wt_lookup(b->octets, b->length, k, b->tag, found, WT_FOUND) == WT_DONE && found[WT_PRESENT];
+    if (there != (s.end != 0) || (there && (found[WT_START] != s.start || found[WT_END] != s.end))) differ++;
+}
+
+/* one octet changed, with and without a serial that fits */
+static void damage(struct book *b) {
+    for (int t = 0; t < 3000; t++) {
+        size_t i = t < 500 ? (size_t)t % b->length : chance((uint32_t)b->length);
+        uint8_t was = b->octets[i], serial[4];
+        memcpy(serial, b->octets + 4, 4);
+        b->octets[i] = t % 3 == 0 ? 0 : t % 3 == 1 ? was ^ 0x80 : (uint8_t)chance(256);
+        if (t % 7 != 0) put_word32(b->octets + 4, plain_serial_bits(b->octets + 12, b->length - 12));
+        compare(b);
+        b->octets[i] = was;
+        memcpy(b->octets + 4, serial, 4);
+    }
+}
+
+static void cut(const struct book *b) {
+    struct book c = *b;
+    for (c.length = 0; c.length < b->length; c.length += c.length < 500 ? 1 : 97) compare(&c);
+}
+
+/* a stretch of the book that is a value or a record, and at times a little off */
+static const uint8_t *offer(const struct book *b, int record, size_t *n) {
+    struct tables t;
+    if (judge_with(b->octets, b->length, &t).number) abort();
+    size_t at = t.at + word32(b->octets + t.at);
+    for (uint32_t k = chance(word32(b->octets + 8)); 0 < k; k--) at += word32(b->octets + at);
+    size_t end = at + word32(b->octets + at);
+    *n = end - at;
+    if (!record) {
+        size_t i = at + 4 + (t.address.count + 7) / 8, last = i;
+        for (size_t j = 0; j < t.address.count && i < end; j++) {
+            if (!present(b->octets + at + 4, j)) continue;
+            last = i;
+            i += value(t.address.forms[j], b->octets + i, end - i);
+            if (chance(8) == 0) break;
+        }
+        at = last;
+        *n = i - last;
+    }
+    if (chance(4) == 0) *n -= chance(2) < *n;
+    return b->octets + at;
+}
+
+static uint32_t some_tag(const struct book *b) {
+    size_t h = word32(b->octets + 16), a = word32(b->octets + 20 + 8 * h);
+    uint32_t pick = chance(10);
+    if (pick == 0) return word32(b->octets + 20);
+    if (pick == 1 || a == 0) return chance(2) ? 0x3001001F : 0x68000000;
+    return word32(b->octets + 24 + 8 * h + 8 * chance((uint32_t)a));
+}
+
+/* corrections at random, each kept by both sides where it is done */
+static void correct(const struct book *b) {
+    size_t room = b->length + 4000, n = b->length;
+    uint8_t *mine = calloc(room, 1), *plain = calloc(room, 1);
+    memcpy(mine, b->octets, n);
+    memcpy(plain, b->octets, n);
+    for (int t = 0; t < 2000; t++) {
+        uint64_t out[WT_CORRECTED], k = chance(12) == 0 ? WT_HEADER : chance((uint32_t)word32(mine + 8) + (chance(9) == 0));
+        struct corrected c;
+        uint32_t number, tag = some_tag(b);
+        size_t size, lent = chance(20) == 0 ? room - 4000 : room, stated = chance(40) == 0 ? room + 1 : n;
+        const uint8_t *v = offer(b, 0, &size), *r;
+        uint8_t bent;
+        switch (chance(4)) {
+        case 0:
+            number = wt_set(mine, lent, stated, k, tag, v, size, out, WT_CORRECTED);
+            c = plain_set(plain, lent, stated, k, tag, v, size);
+            break;
+        case 1:
+            number = wt_clear(mine, lent, stated, k, tag, out, WT_CORRECTED);
+            c = plain_set(plain, lent, stated, k, tag, 0, 0);
+            break;
+        case 2:
+            r = offer(b, 1, &size);
+            bent = chance(3) == 0;
+            if (bent) b->octets[r + 4 - b->octets] ^= 0x40;
+            number = wt_insert(mine, lent, stated, k, r, size, out, WT_CORRECTED);
+            c = plain_insert(plain, lent, stated, k, r, size);
+            if (bent) b->octets[r + 4 - b->octets] ^= 0x40;
+            break;
+        default:
+            number = wt_delete(mine, lent, stated, k, out, WT_CORRECTED);
+            c = plain_delete(plain, lent, stated, k);
+        }
+        mended++;
+        answers[number]++;
+        if (number != c.number || out[0] != c.answer || memcmp(mine, plain, room)) differ++;
+        if (number == 0) n = c.answer;
+    }
+    free(mine);
+    free(plain);
+}
+
+static void write_again(const struct book *b) {
+    struct replay r = replay_of(b);
+    uint8_t *mine = malloc(b->length), *plain = malloc(b->length);
+    if (replay_library(&r, mine, b->length) || memcmp(mine, b->octets, b->length)) differ++;
+    if (replay_plain(&r, plain, b->length) || memcmp(plain, b->octets, b->length)) differ++;
+    if (replay_library(&r, mine, b->length - 1) != replay_plain(&r, plain, b->length - 1)) differ++;
+    free(mine);
+    free(plain);
+    free(r.steps);
+}
+
+static void say(const char *what, unsigned tried, const unsigned *met_by) {
+    printf("%u %s; answers met:", tried, what);
+    for (int i = 0; i < 19; i++)
+        if (met_by[i]) printf(" %d", i);
+    printf("\n");
+}
+
+int agree(void) {
+    for (enum shape s = 0; s < SHAPES; s++) {
+        struct book b = make_book(s, 20000);
+        seed = 1 + s;
+        if (plain_judge(b.octets, b.length).number != 0) differ++;
+        compare(&b);
+        damage(&b);
+        cut(&b);
+        correct(&b);
+        write_again(&b);
+        free(b.octets);
+    }
+    say("books judged and looked up", judged, met);
+    say("corrections", mended, answers);
+    printf("%d books written again; %u differ\n", SHAPES, differ);
+    return differ != 0;
+}
