@@ -134,7 +134,7 @@ def check_refusals():
         book = books.octets_of(table)
         for length in range(0, len(book), 3):
             assert oab.judge(book[:length]) == ('refused',) + books.cut_refusal(table, length)
-    for book, expected in books.reading_books():
+    for book, expected in books.decision_books():
         verdict = oab.judge(book)
         assert verdict[0] == 'good' if expected is None else verdict == ('refused',) + expected
     assert oab.judge(bytes(oab.LIMIT + 1)) == ('refused', 1, 0)

@@ -384,7 +384,7 @@ def judged_books():
     for tail in (b'\0', b'\x04\0\0\0', small):
         yield small + tail
         yield books.mended(small + tail)
-    for book, expected in books.reading_books():
+    for book, expected in books.decision_books():
         assert oab.judge(book)[:3] == ('refused',) + expected if expected else oab.judge(book)[0] == 'good', (book, expected)
         yield book
     # Every number of columns from 0 to 18 in either table.
@@ -810,7 +810,7 @@ def writing_keys(stream, rng):
                         + [CLOSE, everything[missing], CLOSE, OPEN, FINISH])
             stream.play(24 + 16 * count + 400, [begin_call(columns, columns), OPEN] + some + [CLOSE, OPEN] + everything
                         + [CLOSE, FINISH, CLOSE])
-    # A key of type 000D can't be satisfied (reading 10).
+    # A key of type 000D can't be satisfied (decision 9).
     stream.play(100, [begin_call([], [(0x8CD8000D, 2)]), OPEN, CLOSE, OPEN, b'\x05' + oab.four(0x8CD8000D) + b'a', CLOSE, FINISH])
 
 

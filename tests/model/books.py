@@ -559,10 +559,10 @@ def random_damage(book, rng):
     return bytes(octets)
 
 
-# ---------------------------------------------------------------- the settled readings
+# ---------------------------------------------------------------- the decisions
 
-def reading_books():
-    """Books that tell readings apart, each with its refusal (None: it is good)."""
+def decision_books():
+    """Books that tell the choices apart, each with its refusal (None: it is good)."""
     text = (0x3001001F, 0)
 
     def book(header, address, header_row, rows, change=None):
@@ -571,7 +571,7 @@ def reading_books():
             change(draft)
         return draft.build()
 
-    # Reading 1: in a column both fields' 2 come before 6 and 7.
+    # Decision 1: in a column both fields' 2 come before 6 and 7.
     bad_type = book([], [text, (0x30030005, 0)], [], [[None, None]])
     repeated = book([], [text, text], [], [[None, None]])
     for cut in range(32, 40):
@@ -579,10 +579,10 @@ def reading_books():
         yield repeated[:cut], (2, 32 if cut < 36 else 36)
     yield bad_type[:40], (6, 32)
     yield repeated[:40], (7, 32)
-    # Reading 2: equal elements are taken.
+    # The first decision: equal elements are taken.
     yield book([], [(0x68051003, 0), (0x800F101F, 0)], [], [[b'\x02\x05\x05', b'\x02a\0a\0']]), None
     yield book([], [(0x8009101E, 0), (0x80091102, 0)], [], [[b'\x02a\0A\0', b'\x02\x01a\x01a']]), None
-    # Readings 4 and 5: no octet left where a record is due is 13 at 8, one to three are 2 there;
+    # Decisions 3 and 4: no octet left where a record is due is 13 at 8, one to three are 2 there;
     # a book that ends in the header or the metadata is 2.
     empty = book([], [], [], [[], []])
     assert len(empty) == 36
@@ -596,7 +596,7 @@ def reading_books():
         if cut >= 12:
             yield mended(empty[:cut]), (2, cut - cut % 4) if cut < 24 or cut % 4 else (13, 8)
     yield empty, None
-    # Reading 6: number 4 after every column, before the missing records; also with empty tables.
+    # Decision 5: number 4 after every column, before the missing records; also with empty tables.
     for size in (0, 11, 13, 20, 0xFFFFFFFF):
         def wrong_size(draft, size=size):
             draft.metadata_size = size
@@ -605,19 +605,19 @@ def reading_books():
         yield book([text], [text, (0x30010000, 0)], [None], [[None, None]], wrong_size), (6, 40)
         yield book([text], [text, text], [None], [[None, None]], wrong_size), (7, 40)
         yield book([text], [text, text], [None], [[None, None]], wrong_size)[:47], (2, 44)
-    # Reading 7: a value with no octet left starts at the record's end, or at the book's.
+    # Decision 6: a value with no octet left starts at the record's end, or at the book's.
     yield book([], [text], [], [[b'']]), (11, 41)
     yield book([], [text], [], [[b''], [b'a\0']]), (11, 41)
     yield book([], [(0x3A00000B, 0), text], [], [[b'\x01', b'']]), (11, 50)
-    # Reading 8: with 8 or 16 columns, or none, no bit is spare.
+    # Decision 7: with 8 or 16 columns, or none, no bit is spare.
     for count in (8, 16):
         columns = [((0x3A00 + i) << 16 | oab.YES_OR_NO, 2) for i in range(count)]
         yield book([], columns, [], [[b'\x01'] * count]), None
-    # Reading 9: byte order mark, noncharacters and control characters are taken.
+    # Decision 8: byte order mark, noncharacters and control characters are taken.
     for point in (0xFEFF, 0xFFFE, 0xFFFF, 0xFDD0, 0x1FFFF, 0x10FFFF, 1, 0x7F, 0x85):
         yield book([], [text], [], [[chr(point).encode() + b'\0']]), None
     yield book([], [(0x3003001E, 0)], [], [[b'\x80\xFF\xC0\x01\0']]), None
-    # Reading 10: a key column of type 000D can't be satisfied; in the header table it binds nothing.
+    # Decision 9: a key column of type 000D can't be satisfied; in the header table it binds nothing.
     manager = (0x8005000D, 2)
     yield book([], [manager], [], [[None]]), (10, 40)
     yield book([], [manager], [], [[b'a\0']]), (11, 41)

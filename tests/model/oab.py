@@ -3,8 +3,8 @@
 What: judging a book, looking values up, listing, writing and correcting one, all on
 byte strings. Why: the expected output of the tests comes from here and never from the
 code under test. The model is written from document 01 (the scope), document 000
-(sections 2.9 to 2.9.6.9) and the settled readings, as straight down from their words as
-possible; speed plays no part. "Reading N" below is the number of a settled reading.
+(sections 2.9 to 2.9.6.9) and docs/DECISIONS.md, as straight down from their words as
+possible; speed plays no part. "Decision N" below is its number there.
 """
 
 LIMIT = 16_777_216        # most octets of a book
@@ -162,7 +162,7 @@ def bit_of(presence, column):
 
 
 def spare_bit_set(presence, columns):
-    """Is one of the bits behind the last column, in its octet, 1? (Reading 8.)"""
+    """Is one of the bits behind the last column, in its octet, 1? (Decision 7.)"""
     at = columns // 8
     if columns % 8 == 0 or at >= len(presence):
         return False
@@ -230,7 +230,7 @@ def read_table(book, at):
     columns = []
     for _ in range(count):
         tag = read_field(book, at)
-        flags = read_field(book, at + 4)       # reading 1: both 2s, then 6, then 7
+        flags = read_field(book, at + 4)       # decision 1: both 2s, then 6, then 7
         if type_of(tag) not in TYPES:
             raise Refusal(6, at)
         if tag in [earlier for earlier, _ in columns]:
@@ -287,7 +287,7 @@ def read_book(book):
     address_columns, at = read_table(book, at)
     if size != 12 + 8 * (len(header_columns) + len(address_columns)):
         raise Refusal(4, 12)
-    if at == len(book):                        # reading 4: a missing record comes before 2
+    if at == len(book):                        # decision 3: a missing record comes before 2
         raise Refusal(13, 8)
     header_record = read_record(book, at, header_columns, keys_bind=False)
     at += header_record.size
@@ -339,7 +339,7 @@ def lookup(book, record, tag):
 
 def listing(book):
     """What the listing program prints."""
-    if len(book) > 65_536:                     # reading 11: 17 before the book is judged
+    if len(book) > 65_536:                     # decision 10: 17 before the book is judged
         return 'refused 17 0\n'
     try:
         got = read_book(book)

@@ -1,4 +1,4 @@
-// Beginning a book (document 01, "Writing a book"; reading 13): both tables are judged as they are handed over, then the header with serial and
+// Beginning a book (document 01, "Writing a book"; decision 12): both tables are judged as they are handed over, then the header with serial and
 // count 0 and the metadata are written. A begin that is refused leaves every octet and the writing in progress.
 use answers::Verdict;
 use answers::refuse;

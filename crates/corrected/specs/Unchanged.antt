@@ -1,4 +1,4 @@
--- What leaves every octet of the buffer: a refused call; clearing a value that is absent, and setting the value that is there (reading 21).
+-- What leaves every octet of the buffer: a refused call; clearing a value that is absent, and setting the value that is there (decision 21).
 use Prim.Native.Nat.{ℕ, zero, suc, _-_, _≤_, _<_}
 use native.Mathlib.Omega.{arith}
 use mathlib.Core.Path.{_≡_, refl, sym, ap, _∙_}

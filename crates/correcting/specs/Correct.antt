@@ -1,4 +1,4 @@
--- Correcting a book where it stands (document 01, "Correcting a book"; readings 19 to 22): the verdict of each call in the published order (15 for the stated
+-- Correcting a book where it stands (document 01, "Correcting a book"; decisions 18 to 23): the verdict of each call in the published order (15 for the stated
 -- length, the book's own, then 15, 18, 16, 17), its answer, and every octet of the buffer. A book of len octets stands at the front of the buffer d.
 use Prim.Native.Nat.{ℕ}
 use mathlib.Core.Bool.{Bool, true, false, not}

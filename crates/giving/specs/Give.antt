@@ -1,4 +1,4 @@
--- Giving values (document 01, "Writing a book"; readings 14 to 16): one definition for a number, yes or no, octets and the count of a list, and one for the
+-- Giving values (document 01, "Writing a book"; decisions 14 to 16): one definition for a number, yes or no, octets and the count of a list, and one for the
 -- elements of a list.
 use Prim.Native.Nat.{ℕ, _+_, _-_, _%_}
 use mathlib.Core.Bool.{Bool, true, false, cond, not}

@@ -1,4 +1,4 @@
--- The columns of a table as arrays, and the table as it is read: two phases, joined by `agree` to the one definition of judging.
+-- The columns of a table (2.9.3, 2.9.4) as arrays, and the table as it is read: two phases, joined by `agree` to the one definition of judging.
 use Prim.Native.Nat.{ℕ, zero, suc, _+_, _-_, _*_, _%_, _<_, _≤_}
 use native.Mathlib.Omega.{arith}
 use native.Mathlib.Numerals.{add-one}

@@ -1,4 +1,4 @@
--- Whose turn it is (document 01, "Writing a book"; readings 14, 16 and 17): which states a call takes up within a buffer of n octets, and what a verdict on
+-- Whose turn it is (document 01, "Writing a book"; decisions 13 to 15): which states a call takes up within a buffer of n octets, and what a verdict on
 -- a call makes of state and octets.
 use Prim.Native.Nat.{ℕ, _+_, _-_, _*_, _≤_, _<_}
 use native.Mathlib.Omega.{arith}
