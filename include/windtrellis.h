@@ -1,10 +1,10 @@
 /* Windtrellis: offline address books (OAB version 4 full details files), judged, looked up, written and
- * corrected. Every function below is proved to meet its contract (crates/face); docs/CONTRACTS.md says it in
- * a sentence a call. Each takes any octets and any numbers, ends, and answers WT_DONE or the number of its
- * refusal; the refusal's place, or what there is to say, stands in the slice of numbers that is lent for it. A
- * slice that is too short is WT_OUT_OF_TURN, and then nothing lent is touched. A refused call changes no octet
- * of a lent buffer. Usable from C and from C++; a slice is a pointer and a length, and the pointer may not be
- * null, not even for a length of 0. */
+ * corrected. Every function below is proved to meet its contract (crates/face_reading, crates/face_correcting,
+ * crates/face_writing); docs/CONTRACTS.md says it in a sentence a call. Each takes any octets and any numbers,
+ * ends, and answers WT_DONE or the number of its refusal; the refusal's place, or what there is to say, stands in
+ * the slice of numbers that is lent for it. A slice that is too short is WT_OUT_OF_TURN, and then nothing lent is
+ * touched. A refused call changes no octet of a lent buffer. Usable from C and from C++; a slice is a pointer and a
+ * length, and the pointer may not be null, not even for a length of 0. */
 #ifndef WINDTRELLIS_H
 #define WINDTRELLIS_H
 

@@ -1,9 +1,9 @@
 """Drives the C face (include/windtrellis.h) beside the model and compares every answer and every octet.
 
 Run from the top: python3 tests/face_against_model.py [SEED]. It builds the shared library first (make shared). The calls are
-those of make.py's streams made anew with other seeds: judging and columns, lookups, writings, corrections; each is made on
-the model and on the library, from the same octets. Slices that are too short are tried, too. Ends with
-"N calls, 0 differ".
+those of make.py's streams made anew with other seeds: judging and columns, lookups, writings, corrections; then serials of
+any octets. Each is made on the model and on the library, from the same octets. Slices that are too short are tried, too.
+Ends with "N calls, 0 differ".
 """
 
 import ctypes
@@ -58,6 +58,7 @@ def named(record):
 class Face:
     def __init__(self, library):
         self.lib = library
+        library.wt_serial.restype = ctypes.c_uint32
 
     # ---- reading
 
@@ -97,6 +98,9 @@ class Face:
         else:
             model = (want[1], [want[2], SHIM, SHIM])
         compare(('lookup', record, tag), model, (answer, list(out)))
+
+    def serial(self, data):
+        compare(('serial', len(data)), oab.serial(data), self.lib.wt_serial(*octets(data)))
 
     def short(self, book, buffer):
         """Slices that are too short: 15, and nothing is touched."""
@@ -228,11 +232,18 @@ def read(face, rng):
     face.short(books.small_book(), books.small_book())
 
 
+def serials(face, rng):
+    """The library takes short runs octet by octet and long ones by words of eight, with up to seven octets left over."""
+    for length in list(range(301)) + [1000, 4099, 65536, 100003]:
+        face.serial(rng.randbytes(length))
+
+
 def main():
     seed = int(sys.argv[1]) if len(sys.argv) > 1 else 808
     rng = random.Random(seed)
     library = load()
-    read(Face(library), rng)
+    face = Face(library)
+    read(face, rng)
     stream = FaceWriting(library)
     make.writing_begins(stream, rng)
     make.writing_refusals(stream, rng)
@@ -244,6 +255,7 @@ def main():
     make.correcting_small(stream)
     make.correcting_chains(stream, rng)
     make.correcting_damaged(stream, rng)
+    serials(face, rng)
     print(f'{calls} calls, {differ} differ')
     return 1 if differ else 0
 
