@@ -221,36 +221,38 @@ static void times_of(enum shape shape) {
     }
 }
 
-static double best_of(const struct book *b, uint32_t (*serial)(const uint8_t *, size_t)) {
-    double least = 1e9;
-    for (int t = 0; t < turns; t++) {
-        double start = now();
-        sink = serial(b->octets, b->length);
-        double time = now() - start;
-        if (time < least) least = time;
-    }
-    return least;
-}
-
 #ifdef WITH_ZLIB
 static uint32_t zlib_serial(const uint8_t *s, size_t n) { return (uint32_t)~crc32(0, s, (uInt)n); }
 #endif
+
+/* the library's first; they take turns */
+static uint32_t (*const serial_ways[])(const uint8_t *, size_t) = {
+    wt_serial, plain_serial_table, plain_serial_bits,
+#ifdef WITH_ZLIB
+    zlib_serial,
+#endif
+};
+enum { WAYS = sizeof serial_ways / sizeof *serial_ways };
 
 static void serials(void) {
     double first = 0;
     printf("\nserial: library / C by table, by bits, zlib; best of %d\n", turns);
     for (int k = 0; k < 3; k++) {
         struct book b = make_book(REALISTIC, (size_t)1 << (20 + 2 * k));
-        double t = best_of(&b, wt_serial);
+        double t[WAYS];
+        for (int w = 0; w < WAYS; w++) t[w] = 1e9;
+        for (int turn = 0; turn < turns; turn++)
+            for (int w = 0; w < WAYS; w++) {
+                double start = now();
+                sink = serial_ways[w](b.octets, b.length);
+                double time = now() - start;
+                if (time < t[w]) t[w] = time;
+            }
         printf("%6.2f MiB", (double)b.length / (1 << 20));
-        ratio(t, best_of(&b, plain_serial_table));
-        ratio(t, best_of(&b, plain_serial_bits));
-#ifdef WITH_ZLIB
-        ratio(t, best_of(&b, zlib_serial));
-#endif
-        printf("   %.2f ns/octet\n", t * 1e9 / (double)b.length);
-        if (k == 0) first = t;
-        if (k == 2) printf("%10s grown 16 times: takes %.1f times as long\n", "", t / first);
+        for (int w = 1; w < WAYS; w++) ratio(t[0], t[w]);
+        printf("   %.2f ns/octet\n", t[0] * 1e9 / (double)b.length);
+        if (k == 0) first = t[0];
+        if (k == 2) printf("%10s grown 16 times: takes %.1f times as long\n", "", t[0] / first);
         free(b.octets);
     }
 }
