@@ -70,6 +70,7 @@ def theorems(doc):
 def wrong_programs():
     text = (TOP / 'docs/CONTRACTS.md').read_text()
     kept = {f'{p.parent.parent.name}/{p.stem}' for p in CRATES.glob('*/must-fail/*.edit')}
+    kept |= {f'{p.parent.name}/{p.stem}' for p in (TOP / 'tests/wrong').glob('*/*.edit')}
     crates = {p.name for p in CRATES.iterdir()}
     named = {n for n in re.findall(r'`(\w+/\w+)`', text) if n.split('/')[0] in crates and n.split('/')[1] != 'specs'}
     for name in sorted(named):
