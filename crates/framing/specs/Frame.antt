@@ -1,4 +1,5 @@
--- Opening and closing a record, and the finish (document 01, "Writing a book"; decisions 13, 15 and 17): the verdict in the published order (15, then 16, then 17), the state behind the call, and every octet.
+-- Opening and closing a record, and the finish (document 01, "Writing a book"; decisions 13, 15 and 17): the verdict in the published order (15, then 16,
+-- then 17), the state behind the call, and every octet.
 use Prim.Native.Nat.{ℕ, zero, suc, _+_, _-_, _*_}
 use mathlib.Core.Bool.{Bool, true, false, cond, not}
 use mathlib.Core.List.{List}
