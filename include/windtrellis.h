@@ -1,19 +1,42 @@
-/* Windtrellis: offline address books (OAB version 4 full details files), judged, looked up, written and
- * corrected. Every function below is proved to meet its contract (crates/face_reading, crates/face_correcting,
- * crates/face_writing); docs/CONTRACTS.md says it in a sentence a call. Each takes any octets and any numbers,
- * ends, and answers WT_DONE or the number of its refusal; the refusal's place, or what there is to say, stands in
- * the slice of numbers that is lent for it. A slice that is too short is WT_OUT_OF_TURN, and then nothing lent is
- * touched. A refused call changes no octet of a lent buffer. Usable from C and from C++; a slice is a pointer and a
- * length, and the pointer may not be null, not even for a length of 0. */
+/* Windtrellis: offline address books (OAB version 4 full details files), judged, looked up, written and corrected.
+ * Every call below is proved to meet its contract (crates/face_reading, face_correcting, face_writing);
+ * docs/CONTRACTS.md says each in a sentence.
+ *
+ * Answers. A call takes any octets and any numbers, ends, and answers WT_DONE or the number of its refusal. What there
+ * is to say stands in the one small struct that is lent for it, whose first number is the refusal's place, 0 where the
+ * call is done. Where a call is refused, every other number of the struct is 0 (a writing's state stays as it was), and
+ * columns and buffers that were lent stay as they were. No call relies on an earlier one: each looks at all that it is
+ * handed.
+ *
+ * What is lent. A slice is a pointer and a length; the pointer may not be null, not even for a length of 0. Whatever is
+ * lent to one call must not overlap: no slice another one, no struct a slice. A call that is handed a record or a value
+ * inside the buffer that it changes is outside every promise made here: copy it out first.
+ *
+ * Threads. Calls share nothing: they keep no data of their own, so any number of them may run at once on different
+ * buffers, and calls that only read may run at once on the same book.
+ *
+ * Room. Each call says how much room is always enough. After WT_NO_ROOM nothing has changed, and the same call may be
+ * made again with a larger buffer that has the same octets in front. */
 #ifndef WINDTRELLIS_H
 #define WINDTRELLIS_H
 
 #include <stddef.h>
 #include <stdint.h>
 
+#if defined(__STDC_VERSION__) && __STDC_VERSION__ >= 199901L && !defined(__cplusplus)
+#define WT_RESTRICT restrict
+#else
+#define WT_RESTRICT
+#endif
+
 #ifdef __cplusplus
 extern "C" {
 #endif
+
+/* 10,000 for each version, 100 for each change that adds calls, 1 for each other one. wt_version answers that of the
+ * library which the program runs with. */
+#define WT_VERSION 10000u
+uint32_t wt_version(void);
 
 /* Answers. */
 enum {
@@ -46,70 +69,106 @@ enum {
 /* The header record, where a record is named; address records are named by their numbers from 0. */
 #define WT_HEADER UINT64_MAX
 
-/* How many numbers each slice has at least. */
-#define WT_JUDGED 6
-#define WT_FOUND 3
-#define WT_COUNTED 1
-#define WT_CORRECTED 1
-#define WT_STATE 10
+/* ---- reading: nothing is written but the struct and the columns. Refusals: 1 to 14, the book's own, in the published
+ * order; then those that the call names. */
 
-/* Where what stands in a slice: after wt_judge .. */
-enum { WT_LENGTH = 0, WT_COUNT = 1, WT_HEADER_PLACE = 2, WT_FIRST_PLACE = 3, WT_HEADER_COLUMNS = 4, WT_ADDRESS_COLUMNS = 5 };
-/* .. after wt_lookup .. */
-enum { WT_PRESENT = 0, WT_START = 1, WT_END = 2 };
-/* .. in a writing's state: the answer is the octets written, or the refusal's place .. */
-enum { WT_WRITTEN = 0, WT_ANSWER = 9 };
-/* .. and, whatever the call, a refusal's place (in a writing's state it is at WT_ANSWER). */
-enum { WT_PLACE = 0 };
+/* A good book: its length, its count of address records, the places of the header record and of the first address
+ * record, and how many columns each table has. */
+typedef struct {
+    uint64_t place, length, count, header, first, header_columns, address_columns;
+} wt_judged;
+uint32_t wt_judge(const uint8_t *book, size_t octets, wt_judged *WT_RESTRICT out);
 
-/* ---- reading: nothing is written but the slices of numbers */
+/* The columns of the header record (address 0) or of the address records (any other number): all 128 tags and flags are
+ * written, zeros behind the columns, and count says how many there are. Of the flags the two lowest bits come back. */
+typedef struct {
+    uint64_t place, count;
+} wt_counted;
+uint32_t wt_columns(const uint8_t *book, size_t octets, uint32_t address, uint32_t tags[WT_RESTRICT WT_MOST_COLUMNS],
+    uint32_t flags[WT_RESTRICT WT_MOST_COLUMNS], wt_counted *WT_RESTRICT out);
 
-/* The book's length, its count of address records, the places of the header record and of the first address
- * record, and the columns of each table. */
-uint32_t wt_judge(const uint8_t *book, size_t octets, uint64_t *out, size_t outs);
+/* The value of a record under a whole tag: present is 1, and its encoding stands from start up to end (a string with
+ * its 00, a binary value with its length, a list with its count). Absent: present, start and end are 0. Refusals: the
+ * book's own, then 15 for a record or a column that isn't there. */
+typedef struct {
+    uint64_t place, present, start, end;
+} wt_found;
+uint32_t wt_lookup(const uint8_t *book, size_t octets, uint64_t record, uint32_t tag, wt_found *WT_RESTRICT out);
 
-/* The columns of the header record (address 0) or of the address records: WT_MOST_COLUMNS tags and flags, zeros
- * behind the columns, and out[0] is how many there are. Of the flags the two lowest bits are handed back. */
-uint32_t wt_columns(const uint8_t *book, size_t octets, uint32_t address, uint32_t *tags, size_t tag_slots,
-    uint32_t *flags, size_t flag_slots, uint64_t *out, size_t outs);
-
-/* The value of a record under a whole tag: whether there is one, and where its encoding starts and ends. */
-uint32_t wt_lookup(const uint8_t *book, size_t octets, uint64_t record, uint32_t tag, uint64_t *out, size_t outs);
-
-/* The serial of a book whose octets from 12 on are these; it answers no refusal. */
+/* The serial of a book whose octets from 12 on are these. It answers the serial itself and refuses nothing. */
 uint32_t wt_serial(const uint8_t *octets, size_t count);
 
-/* ---- correcting: a book of `length` octets stands at the front of the buffer. out[0] is the new length; octets from
- * the new length up to the old become zero. */
+/* ---- correcting: a book of `length` octets stands at the front of a buffer of `octets`. Done: the struct has the new
+ * length; octets from the new length up to the old are zero, those behind both stay. Refusals: 15 for a length over the
+ * buffer, the book's own, then 15, 18, 16, 17. */
+typedef struct {
+    uint64_t place, length;
+} wt_length;
 
-/* One value of the column's form, to its last octet: a string with its 00, a list with its count. */
-uint32_t wt_set(uint8_t *buffer, size_t octets, uint64_t length, uint64_t record, uint32_t tag, const uint8_t *value,
-    size_t value_octets, uint64_t *out, size_t outs);
-uint32_t wt_clear(uint8_t *buffer, size_t octets, uint64_t length, uint64_t record, uint32_t tag, uint64_t *out, size_t outs);
-/* A whole record, size and presence octets and values, put in before record k. */
-uint32_t wt_insert(uint8_t *buffer, size_t octets, uint64_t length, uint64_t k, const uint8_t *record, size_t record_octets,
-    uint64_t *out, size_t outs);
-uint32_t wt_delete(uint8_t *buffer, size_t octets, uint64_t length, uint64_t k, uint64_t *out, size_t outs);
+/* The value is one encoding of the column's form, to its last octet (else 18): a string with its 00, a list with its
+ * count. 15: no such record or column. 16: the result would be too long. Room: length + value_octets is enough. */
+uint32_t wt_set(uint8_t *WT_RESTRICT buffer, size_t octets, uint64_t length, uint64_t record, uint32_t tag,
+    const uint8_t *WT_RESTRICT value, size_t value_octets, wt_length *WT_RESTRICT out);
 
-/* ---- writing: the state goes from call to call, and the buffer is lent anew at each. The state is the caller's to keep
- * and not to change; any other state is answered, too, and stays inside the buffer. */
+/* Clearing an absent value is done and changes nothing. 15: no such record or column. 16: a key of an address record.
+ * Room: length is enough. */
+uint32_t wt_clear(uint8_t *WT_RESTRICT buffer, size_t octets, uint64_t length, uint64_t record, uint32_t tag,
+    wt_length *WT_RESTRICT out);
 
-uint32_t wt_begin(uint64_t *state, size_t numbers, const uint32_t *header_tags, size_t header_tag_count,
-    const uint32_t *header_flags, size_t header_flag_count, const uint32_t *tags, size_t tag_count, const uint32_t *flags,
-    size_t flag_count, uint8_t *buffer, size_t octets);
-/* The first record opened is the header record. */
-uint32_t wt_open(uint64_t *state, size_t numbers, uint8_t *buffer, size_t octets);
-uint32_t wt_give_number(uint64_t *state, size_t numbers, uint8_t *buffer, size_t octets, uint32_t tag, uint32_t value);
-uint32_t wt_give_truth(uint64_t *state, size_t numbers, uint8_t *buffer, size_t octets, uint32_t tag, uint32_t yes);
-/* Octets without their length, strings without their 00. */
-uint32_t wt_give_octets(uint64_t *state, size_t numbers, uint8_t *buffer, size_t octets, uint32_t tag, const uint8_t *value,
-    size_t value_octets);
-/* A list states its count, then takes that many elements one at a time. */
-uint32_t wt_give_list(uint64_t *state, size_t numbers, uint8_t *buffer, size_t octets, uint32_t tag, uint32_t count);
-uint32_t wt_add_number(uint64_t *state, size_t numbers, uint8_t *buffer, size_t octets, uint32_t value);
-uint32_t wt_add_octets(uint64_t *state, size_t numbers, uint8_t *buffer, size_t octets, const uint8_t *value, size_t value_octets);
-uint32_t wt_close(uint64_t *state, size_t numbers, uint8_t *buffer, size_t octets);
-uint32_t wt_finish(uint64_t *state, size_t numbers, uint8_t *buffer, size_t octets);
+/* A whole record, size and presence octets and values, is put in before record k; k may be the count. 15: k is over the
+ * count. 18: not one record to its last octet. 16: a key is missing, the count or the length would pass its limit.
+ * Room: length + record_octets is enough. A record to be doubled is copied out of the buffer first. */
+uint32_t wt_insert(uint8_t *WT_RESTRICT buffer, size_t octets, uint64_t length, uint64_t k,
+    const uint8_t *WT_RESTRICT record, size_t record_octets, wt_length *WT_RESTRICT out);
+
+/* 15: no such record. 16: it is the only one. Room: length is enough. */
+uint32_t wt_delete(uint8_t *WT_RESTRICT buffer, size_t octets, uint64_t length, uint64_t k, wt_length *WT_RESTRICT out);
+
+/* ---- writing: the state goes from call to call, and a buffer is lent anew at each. It may be another one, larger or
+ * smaller, as long as it has the `written` octets as the last call left them; what a finished book holds is promised
+ * for that. The state is the caller's to keep and not to change: any other state is answered, too, and no call leaves
+ * the buffer. Before the first wt_begin the numbers of the state may be any.
+ *
+ * `written` is how many octets are written; at the finish it is the book's length. A refusal changes `place` alone, and
+ * the writing may go on. Refusals of each call: 15 where it isn't its turn, then 18, then 16, then 17. */
+typedef struct {
+    uint64_t place, written, rest[8]; /* rest is the library's own */
+} wt_writing;
+
+/* Both tables, a tag and flags a column; unused flag bits become zero. It is never out of turn. 15: tags and flags of a
+ * table differ in number. Then 5, 6 and 7, the header table's first; their place is the row's number, rows of the
+ * address table counted from 128 (5: 128 or 256). Room: 24 + 8 (header columns + address columns) is enough. */
+uint32_t wt_begin(wt_writing *WT_RESTRICT state, const uint32_t *header_tags, size_t header_tag_count,
+    const uint32_t *header_flags, size_t header_flag_count, const uint32_t *tags, size_t tag_count,
+    const uint32_t *flags, size_t flag_count, uint8_t *WT_RESTRICT buffer, size_t octets);
+
+/* The first record opened is the header record. 16: the 65,536th address record. Room: written + 20 is enough. */
+uint32_t wt_open(wt_writing *WT_RESTRICT state, uint8_t *WT_RESTRICT buffer, size_t octets);
+
+/* A value for a later column than the last one given (else 15); 18 where the column is of another kind. Room: written
+ * + 5, written + 1. Of `yes` any number but 0 is yes. */
+uint32_t wt_give_number(wt_writing *WT_RESTRICT state, uint8_t *WT_RESTRICT buffer, size_t octets, uint32_t tag,
+    uint32_t value);
+uint32_t wt_give_truth(wt_writing *WT_RESTRICT state, uint8_t *WT_RESTRICT buffer, size_t octets, uint32_t tag,
+    uint32_t yes);
+
+/* Octets without their length, strings without their 00. Room: written + value_octets + 5 is enough. */
+uint32_t wt_give_octets(wt_writing *WT_RESTRICT state, uint8_t *WT_RESTRICT buffer, size_t octets, uint32_t tag,
+    const uint8_t *WT_RESTRICT value, size_t value_octets);
+
+/* A list states its count (0: 18), then takes that many elements one at a time. Room: written + 5; for an element of
+ * octets written + value_octets + 5. */
+uint32_t wt_give_list(wt_writing *WT_RESTRICT state, uint8_t *WT_RESTRICT buffer, size_t octets, uint32_t tag,
+    uint32_t count);
+uint32_t wt_add_number(wt_writing *WT_RESTRICT state, uint8_t *WT_RESTRICT buffer, size_t octets, uint32_t value);
+uint32_t wt_add_octets(wt_writing *WT_RESTRICT state, uint8_t *WT_RESTRICT buffer, size_t octets,
+    const uint8_t *WT_RESTRICT value, size_t value_octets);
+
+/* 16: an address record lacks a key; it stays open. Room: written is enough. */
+uint32_t wt_close(wt_writing *WT_RESTRICT state, uint8_t *WT_RESTRICT buffer, size_t octets);
+
+/* 16: there is no address record. Room: written is enough. */
+uint32_t wt_finish(wt_writing *WT_RESTRICT state, uint8_t *WT_RESTRICT buffer, size_t octets);
 
 #ifdef __cplusplus
 }
