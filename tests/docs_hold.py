@@ -1,6 +1,7 @@
 """Checks that what the docs name is there: definitions, functions and proofs of docs/WHERE.md, theorems of docs/PROMISES.md and
-docs/CONTRACTS.md, the wrong programs that CONTRACTS names, and that every kept one is named. Of every public call of the library: that
-it has a contract, has no `requires`, and is in CONTRACTS.
+docs/CONTRACTS.md; that a function named in WHERE promises, by its contract, what the definition beside it says; the wrong programs
+that CONTRACTS names, and that every kept one is named. Of every public call of the library: that it has a contract, has no
+`requires`, and is in CONTRACTS.
 
 Run from the top: python3 tests/docs_hold.py. Ends with "N names, 0 missing".
 """
@@ -42,8 +43,68 @@ def pairs(text):
             yield name, found[2]
 
 
+def meanings():
+    """What each definition of the specs names in its equations or fields, by its name; an operator by its word."""
+    says = {}
+    start = r'^(?:(?:pub|unfoldable|abbrev|record) )+([\w·-]+)(?: .*)? :.*\n((?:.+\n)*)'
+    for path in CRATES.glob('*/specs/*.antt'):
+        for found in re.finditer(start, path.read_text(), re.M):
+            lines = [line for line in found[2].splitlines() if not line.startswith('--')]
+            says.setdefault(found[1].strip('_'), set()).update(words(' '.join(lines)))
+    return says
+
+
+def words(text):
+    return re.findall(r'[\w·-]+', text)
+
+
+def reached(text, says):
+    """The definitions that a text names, and those that they name in turn."""
+    seen, due = set(), [w for w in words(text) if w in says]
+    while due:
+        word = due.pop()
+        if word not in seen:
+            seen.add(word)
+            due += [w for w in says[word] if w in says]
+    return seen
+
+
+def contract(path, name):
+    """The ensures of a function, or '' where there is none."""
+    found = re.search(r'\bfn ' + re.escape(name) + r'[(<].*?^\{', path.read_text(), re.M | re.S)
+    return found[0].partition(' ensures ')[2] if found else ''
+
+
+def statement(path, name):
+    """What a law says, up to its proof."""
+    found = re.search(r'^ *pub ' + re.escape(name) + r' :(.*?)^ *(?:unfolding|' + re.escape(name) + r')\b', path.read_text(), re.M | re.S)
+    return found[1] if found else ''
+
+
+def cites(text):
+    """What a row's functions promise is what its definitions say: each contract leads to one of them, and each of them is
+    led to by a contract, or by what a law beside it says."""
+    says = meanings()
+    for line in text.splitlines():
+        cells = line.strip('|').split('|')
+        if not line.startswith('| ') or len(cells) != 4:
+            continue
+        row = cells[0].strip()
+        definitions = {name.strip('_') for name, _ in pairs(cells[1])} & set(says)
+        functions = [(name, CRATES / path) for name, path in pairs(cells[2]) if not path.endswith('main.rt')]
+        laws = [(name, CRATES / path) for name, path in pairs(cells[3]) if path.endswith('.antt')]
+        promised = {name: reached(contract(path, name), says) for name, path in functions if path.is_file()}
+        said = set().union(*promised.values(), *(reached(statement(path, name), says) for name, path in laws if path.is_file()))
+        if definitions and promised:
+            for name in promised:
+                want(promised[name] & definitions, f'{row}: one of {sorted(definitions)} in what {name} promises')
+            for name in sorted(definitions):
+                want(name in said, f'{row}: {name} in what {sorted(promised)} and the laws beside them say')
+
+
 def where():
     text = (TOP / 'docs/WHERE.md').read_text()
+    cites(text)
     for name, path in pairs(text):
         want(declares(CRATES / path, name), f'{name} in {path}')
     for path in re.findall(r'`(\w+/proofs/\w+)`', text):

@@ -1,5 +1,5 @@
 // A writing in progress: a small state of plain numbers that goes from call to call, and what every call asks of it first. The tables stand in the
-// written octets. A state that no calls can leave in a buffer is out of turn.
+// written octets. Which states are out of turn, whatever the call, is decision 13.
 use answers::Refusal;
 use answers::Verdict;
 use answers::refuse;
