@@ -1,5 +1,6 @@
--- Where it is no call's turn, whatever was drafted: after the finish, and in a buffer that is shorter than what is written, every call but begin is out of
--- turn (document 01: "any call after the finish, a state's written length over the buffer").
+-- Where it is no call's turn, whatever was drafted: after the finish, and in a buffer that is shorter than what is
+-- written, every call but begin is out of turn (document 01: "any call after the finish, a state's written length over
+-- the buffer").
 use Prim.Native.Nat.{ℕ, _<_}
 use native.Mathlib.Omega.{arith}
 use mathlib.Core.Path.{_≡_}
@@ -38,7 +39,8 @@ pub ended-no-turn : (st : Writing) → (st .stage ≡ 0 → ⊥) → (c : Call) 
 ended-no-turn st h c d = let e = ended-untaken st (length d) h in (no-call st d e c, no-finish st d e)
 
 -- an accepted finish ends the writing: after it any call, in any buffer, is out of turn
-pub finished-no-turn : (st : Writing) (d : List ℕ) → finishAt st (length d) ≡ clear → (c : Call) (e : List ℕ) → NoTurn c (finishOutcome st d .state) e
+pub finished-no-turn : (st : Writing) (d : List ℕ) → finishAt st (length d) ≡ clear → (c : Call) (e : List ℕ)
+    → NoTurn c (finishOutcome st d .state) e
 unfolding finishOutcome
 finished-no-turn st d q c e = rw q (ended-no-turn _ (λ z. omega arith) c e)
 

@@ -1,4 +1,5 @@
--- States that no call but begin takes up in a buffer of n octets (decision 13): those after the finish, and those whose written octets the buffer can't hold.
+-- States that no call but begin takes up in a buffer of n octets (decision 13): those after the finish, and those whose
+-- written octets the buffer can't hold.
 use Prim.Native.Nat.{ℕ, _<_}
 use mathlib.Core.Path.{_≡_, refl}
 use mathlib.Core.Bool.{Bool, true, false, cond}
