@@ -17,16 +17,17 @@ static uint32_t chance(uint32_t below) {
 }
 
 static void compare(const struct book *b) {
-    uint64_t out[WT_JUDGED], found[WT_FOUND];
+    wt_judged out;
+    wt_found found;
     struct refusal r = plain_judge(b->octets, b->length);
     size_t k = b->records - 1;
     struct stretch s = plain_lookup(b->octets, b->length, k, b->tag);
     judged++;
     met[r.number]++;
-    uint32_t number = wt_judge(b->octets, b->length, out, WT_JUDGED);
-    if (number != r.number || (number && out[WT_PLACE] != r.place)) differ++;
-    int there = wt_lookup(b->octets, b->length, k, b->tag, found, WT_FOUND) == WT_DONE && found[WT_PRESENT];
-    if (there != (s.end != 0) || (there && (found[WT_START] != s.start || found[WT_END] != s.end))) differ++;
+    uint32_t number = wt_judge(b->octets, b->length, &out);
+    if (number != r.number || out.place != (number ? r.place : 0) || out.length != (number ? 0 : b->length)) differ++;
+    int there = wt_lookup(b->octets, b->length, k, b->tag, &found) == WT_DONE && found.present;
+    if (there != (s.end != 0) || (there && (found.start != s.start || found.end != s.end))) differ++;
 }
 
 /* one octet changed, with and without a serial that fits */
@@ -86,7 +87,8 @@ static void correct(const struct book *b) {
     memcpy(mine, b->octets, n);
     memcpy(plain, b->octets, n);
     for (int t = 0; t < 2000; t++) {
-        uint64_t out[WT_CORRECTED], k = chance(12) == 0 ? WT_HEADER : chance((uint32_t)word32(mine + 8) + (chance(9) == 0));
+        uint64_t k = chance(12) == 0 ? WT_HEADER : chance((uint32_t)word32(mine + 8) + (chance(9) == 0));
+        wt_length out;
         struct corrected c;
         uint32_t number, tag = some_tag(b);
         size_t size, lent = chance(20) == 0 ? room - 4000 : room, stated = chance(40) == 0 ? room + 1 : n;
@@ -94,28 +96,28 @@ static void correct(const struct book *b) {
         uint8_t bent;
         switch (chance(4)) {
         case 0:
-            number = wt_set(mine, lent, stated, k, tag, v, size, out, WT_CORRECTED);
+            number = wt_set(mine, lent, stated, k, tag, v, size, &out);
             c = plain_set(plain, lent, stated, k, tag, v, size);
             break;
         case 1:
-            number = wt_clear(mine, lent, stated, k, tag, out, WT_CORRECTED);
+            number = wt_clear(mine, lent, stated, k, tag, &out);
             c = plain_set(plain, lent, stated, k, tag, 0, 0);
             break;
         case 2:
             r = offer(b, 1, &size);
             bent = chance(3) == 0;
             if (bent) b->octets[r + 4 - b->octets] ^= 0x40;
-            number = wt_insert(mine, lent, stated, k, r, size, out, WT_CORRECTED);
+            number = wt_insert(mine, lent, stated, k, r, size, &out);
             c = plain_insert(plain, lent, stated, k, r, size);
             if (bent) b->octets[r + 4 - b->octets] ^= 0x40;
             break;
         default:
-            number = wt_delete(mine, lent, stated, k, out, WT_CORRECTED);
+            number = wt_delete(mine, lent, stated, k, &out);
             c = plain_delete(plain, lent, stated, k);
         }
         mended++;
         answers[number]++;
-        if (number != c.number || out[0] != c.answer || memcmp(mine, plain, room)) differ++;
+        if (number != c.number || (number ? out.place : out.length) != c.answer || memcmp(mine, plain, room)) differ++;
         if (number == 0) n = c.answer;
     }
     free(mine);

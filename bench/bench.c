@@ -37,43 +37,44 @@ static void done(uint32_t number) {
 }
 
 static void set(struct subject *s, int side, const uint8_t *v, size_t n) {
-    uint64_t out[WT_CORRECTED];
+    wt_length out;
     if (side == PLAIN) {
         struct corrected c = plain_set(s->copy[side], s->room, s->length[side], 0, s->tag, v, n);
         done(c.number);
         s->length[side] = c.answer;
         return;
     }
-    if (v) done(wt_set(s->copy[side], s->room, s->length[side], 0, s->tag, v, n, out, WT_CORRECTED));
-    else done(wt_clear(s->copy[side], s->room, s->length[side], 0, s->tag, out, WT_CORRECTED));
-    s->length[side] = out[0];
+    if (v) done(wt_set(s->copy[side], s->room, s->length[side], 0, s->tag, v, n, &out));
+    else done(wt_clear(s->copy[side], s->room, s->length[side], 0, s->tag, &out));
+    s->length[side] = out.length;
 }
 
 static void insert(struct subject *s, int side) {
-    uint64_t out[WT_CORRECTED];
+    wt_length out;
     struct corrected c = {0, 0};
     if (side == PLAIN) c = plain_insert(s->copy[side], s->room, s->length[side], 0, s->record, s->record_size);
-    else c.number = wt_insert(s->copy[side], s->room, s->length[side], 0, s->record, s->record_size, out, WT_CORRECTED), c.answer = out[0];
+    else c.number = wt_insert(s->copy[side], s->room, s->length[side], 0, s->record, s->record_size, &out), c.answer = out.length;
     done(c.number);
     s->length[side] = c.answer;
 }
 
 static void take_out(struct subject *s, int side) {
-    uint64_t out[WT_CORRECTED];
+    wt_length out;
     struct corrected c = {0, 0};
     if (side == PLAIN) c = plain_delete(s->copy[side], s->room, s->length[side], 0);
-    else c.number = wt_delete(s->copy[side], s->room, s->length[side], 0, out, WT_CORRECTED), c.answer = out[0];
+    else c.number = wt_delete(s->copy[side], s->room, s->length[side], 0, &out), c.answer = out.length;
     done(c.number);
     s->length[side] = c.answer;
 }
 
 static void perform(struct subject *s, enum work w, int side) {
     const struct book *b = &s->book;
-    uint64_t out[WT_JUDGED];
+    wt_judged out;
+    wt_found found;
     switch (w) {
     case SERIAL: sink = side == PLAIN ? plain_serial_table(b->octets, b->length) : wt_serial(b->octets, b->length); break;
-    case JUDGE: sink = side == PLAIN ? plain_judge(b->octets, b->length).number : wt_judge(b->octets, b->length, out, WT_JUDGED); break;
-    case LOOKUP: sink = side == PLAIN ? plain_lookup(b->octets, b->length, b->records - 1, b->tag).end : wt_lookup(b->octets, b->length, b->records - 1, b->tag, out, WT_FOUND); break;
+    case JUDGE: sink = side == PLAIN ? plain_judge(b->octets, b->length).number : wt_judge(b->octets, b->length, &out); break;
+    case LOOKUP: sink = side == PLAIN ? plain_lookup(b->octets, b->length, b->records - 1, b->tag).end : wt_lookup(b->octets, b->length, b->records - 1, b->tag, &found); break;
     case GROW: set(s, side, s->large, s->large_size); break;
     case SHRINK: set(s, side, s->small, s->small_size); break;
     case INSERT: insert(s, side); break;

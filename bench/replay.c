@@ -76,20 +76,20 @@ struct replay replay_of(const struct book *b) {
 }
 
 uint32_t replay_library(const struct replay *r, uint8_t *buf, size_t room) {
-    uint64_t st[WT_STATE] = {0};
-    uint32_t number = wt_begin(st, WT_STATE, r->tags[0], r->columns[0], r->flags[0], r->columns[0], r->tags[1], r->columns[1], r->flags[1], r->columns[1], buf, room);
+    wt_writing st;
+    uint32_t number = wt_begin(&st, r->tags[0], r->columns[0], r->flags[0], r->columns[0], r->tags[1], r->columns[1], r->flags[1], r->columns[1], buf, room);
     for (size_t i = 0; number == 0 && i < r->count; i++) {
         const struct step *s = &r->steps[i];
         switch (s->what) {
-        case OPEN: number = wt_open(st, WT_STATE, buf, room); break;
-        case NUMBER: number = wt_give_number(st, WT_STATE, buf, room, s->tag, s->n); break;
-        case TRUTH: number = wt_give_truth(st, WT_STATE, buf, room, s->tag, s->n); break;
-        case OCTETS_OF: number = wt_give_octets(st, WT_STATE, buf, room, s->tag, r->book + s->at, s->n); break;
-        case LIST: number = wt_give_list(st, WT_STATE, buf, room, s->tag, s->n); break;
-        case ADD_NUMBER: number = wt_add_number(st, WT_STATE, buf, room, s->n); break;
-        case ADD_OCTETS: number = wt_add_octets(st, WT_STATE, buf, room, r->book + s->at, s->n); break;
-        case CLOSE: number = wt_close(st, WT_STATE, buf, room); break;
-        default: number = wt_finish(st, WT_STATE, buf, room);
+        case OPEN: number = wt_open(&st, buf, room); break;
+        case NUMBER: number = wt_give_number(&st, buf, room, s->tag, s->n); break;
+        case TRUTH: number = wt_give_truth(&st, buf, room, s->tag, s->n); break;
+        case OCTETS_OF: number = wt_give_octets(&st, buf, room, s->tag, r->book + s->at, s->n); break;
+        case LIST: number = wt_give_list(&st, buf, room, s->tag, s->n); break;
+        case ADD_NUMBER: number = wt_add_number(&st, buf, room, s->n); break;
+        case ADD_OCTETS: number = wt_add_octets(&st, buf, room, r->book + s->at, s->n); break;
+        case CLOSE: number = wt_close(&st, buf, room); break;
+        default: number = wt_finish(&st, buf, room);
         }
     }
     return number;

@@ -1,13 +1,16 @@
-"""Drives the C face (include/windtrellis.h) beside the model and compares every answer and every octet.
+"""Drives the C face (include/windtrellis.h) beside the model and compares every answer, every number and every octet.
 
-Run from the top: python3 tests/face_against_model.py [SEED]. It builds the shared library first (make shared). The calls are
-those of make.py's streams made anew with other seeds: judging and columns, lookups, writings, corrections; then serials of
-any octets. Each is made on the model and on the library, from the same octets. Slices that are too short are tried, too.
-Ends with "N calls, 0 differ".
+Run from the top: python3 tests/face_against_model.py [SEED]. The library is that of `make shared`; where the environment says
+LIBRARY='a.o b.o ..', it is one linked of these objects, as for a machine that the kit doesn't compile for. The calls are those of
+make.py's streams made anew with other seeds: judging and columns, lookups, writings, corrections; then serials of any octets. Each is
+made on the model and on the library, from the same octets. Writings also get another buffer between the calls: larger, smaller,
+elsewhere. Ends with "N calls, 0 differ".
 """
 
 import ctypes
+import os
 import random
+import re
 import subprocess
 import sys
 from pathlib import Path
@@ -18,7 +21,7 @@ import make
 from model import books, oab
 
 TOP = Path(__file__).resolve().parent.parent
-SHIM = 0xA5A5A5A5A5A5A5A5       # what a slice of numbers holds before a call
+SHIM = 0xA5A5A5A5A5A5A5A5       # what the numbers of a struct are before a call
 HEADER = (1 << 64) - 1
 
 calls = 0
@@ -26,8 +29,51 @@ differ = 0
 
 
 def load():
-    subprocess.run(['make', '-s', 'shared'], cwd=TOP, check=True)
-    return ctypes.CDLL(str(TOP / 'target/oab/libwindtrellis.so'))
+    objects = os.environ.get('LIBRARY', '').split()
+    if not objects:
+        subprocess.run(['make', '-s', 'shared'], cwd=TOP, check=True)
+        return ctypes.CDLL(str(TOP / 'target/oab/libwindtrellis.so'))
+    linked = TOP / 'target/linked/libwindtrellis.so'
+    linked.parent.mkdir(parents=True, exist_ok=True)
+    subprocess.run(['cc', '-shared', '-o', linked, *objects], check=True)
+    return ctypes.CDLL(str(linked))
+
+
+# ---- the structs of the header
+
+class Numbers(ctypes.Structure):
+    """A struct of 64-bit numbers, each SHIM until a call says otherwise."""
+
+    def __init__(self):
+        super().__init__()
+        ctypes.memmove(ctypes.addressof(self), SHIM.to_bytes(8, 'little') * (ctypes.sizeof(self) // 8), ctypes.sizeof(self))
+
+    def list(self):
+        return list((ctypes.c_uint64 * (ctypes.sizeof(self) // 8)).from_buffer_copy(self))
+
+
+def fields(*names):
+    return [(name, ctypes.c_uint64) for name in names]
+
+
+class Judged(Numbers):
+    _fields_ = fields('place', 'length', 'count', 'header', 'first', 'header_columns', 'address_columns')
+
+
+class Counted(Numbers):
+    _fields_ = fields('place', 'count')
+
+
+class Found(Numbers):
+    _fields_ = fields('place', 'present', 'start', 'end')
+
+
+class Length(Numbers):
+    _fields_ = fields('place', 'length')
+
+
+class Writing(Numbers):
+    _fields_ = fields('place', 'written') + [('rest', ctypes.c_uint64 * 8)]
 
 
 def octets(data):
@@ -38,8 +84,9 @@ def words(numbers):
     return (ctypes.c_uint32 * max(len(numbers), 1))(*numbers), ctypes.c_size_t(len(numbers))
 
 
-def numbers(count):
-    return (ctypes.c_uint64 * max(count, 1))(*[SHIM] * max(count, 1)), ctypes.c_size_t(count)
+def refused(struct, place):
+    """Where a call is refused, every number behind the place is 0."""
+    return [place] + [0] * (len(struct.list()) - 1)
 
 
 def compare(what, want, got):
@@ -58,76 +105,50 @@ def named(record):
 class Face:
     def __init__(self, library):
         self.lib = library
-        library.wt_serial.restype = ctypes.c_uint32
+        library.wt_serial.restype = library.wt_version.restype = ctypes.c_uint32
 
-    # ---- reading
+    def version(self):
+        header = (TOP / 'include/windtrellis.h').read_text()
+        compare('version', int(re.search(r'#define WT_VERSION (\d+)u', header)[1]), self.lib.wt_version())
 
     def judge(self, book):
         want = oab.judge(book)
-        out, outs = numbers(6)
-        answer = self.lib.wt_judge(*octets(book), out, outs)
+        out = Judged()
+        answer = self.lib.wt_judge(*octets(book), ctypes.byref(out))
         if want[0] == 'good':
             _, length, header, address, count, place, first = want
-            compare('judge', (0, [length, count, place, first, len(header), len(address)]), (answer, list(out)))
+            compare('judge', (0, [0, length, count, place, first, len(header), len(address)]), (answer, out.list()))
         else:
-            compare('judge', (want[1], [want[2]] + [SHIM] * 5), (answer, list(out)))
+            compare('judge', (want[1], refused(out, want[2])), (answer, out.list()))
         for table in (0, 1):
             self.columns(book, want, table)
 
     def columns(self, book, want, table):
-        tags, tag_slots = words([7] * 128)
-        flags, flag_slots = words([7] * 128)
-        out, outs = numbers(1)
-        answer = self.lib.wt_columns(*octets(book), ctypes.c_uint32(table * 5), tags, tag_slots, flags, flag_slots, out, outs)
+        tags, flags = words([7] * 128)[0], words([8] * 128)[0]
+        out = Counted()
+        answer = self.lib.wt_columns(*octets(book), ctypes.c_uint32(table * 5), tags, flags, ctypes.byref(out))
         if want[0] == 'good':
             columns = want[2 + table]
             rest = [0] * (128 - len(columns))
-            model = (0, [len(columns)], [t for t, _ in columns] + rest, [f & 3 for _, f in columns] + rest)
+            model = (0, [0, len(columns)], [t for t, _ in columns] + rest, [f & 3 for _, f in columns] + rest)
         else:
-            model = (want[1], [want[2]], [7] * 128, [7] * 128)
-        compare('columns', model, (answer, list(out), list(tags), list(flags)))
+            model = (want[1], refused(out, want[2]), [7] * 128, [8] * 128)
+        compare('columns', model, (answer, out.list(), list(tags), list(flags)))
 
     def lookup(self, book, record, tag):
         want = oab.lookup(book, record, tag)
-        out, outs = numbers(3)
-        answer = self.lib.wt_lookup(*octets(book), named(record), ctypes.c_uint32(tag), out, outs)
+        out = Found()
+        answer = self.lib.wt_lookup(*octets(book), named(record), ctypes.c_uint32(tag), ctypes.byref(out))
         if want[0] == 'at':
-            model = (0, [1, want[1], want[2]])
+            model = (0, [0, 1, want[1], want[2]])
         elif want[0] == 'absent':
-            model = (0, [0, 0, 0])
+            model = (0, [0, 0, 0, 0])
         else:
-            model = (want[1], [want[2], SHIM, SHIM])
-        compare(('lookup', record, tag), model, (answer, list(out)))
+            model = (want[1], refused(out, want[2]))
+        compare(('lookup', record, tag), model, (answer, out.list()))
 
     def serial(self, data):
         compare(('serial', len(data)), oab.serial(data), self.lib.wt_serial(*octets(data)))
-
-    def short(self, book, buffer):
-        """Slices that are too short: 15, and nothing is touched."""
-        lent, room = octets(buffer)
-        length = ctypes.c_uint64(len(buffer))
-        tag = ctypes.c_uint32(0x3001001F)
-        tags, flags = words([7] * 128), words([7] * 128)
-        few = words([7] * 127)
-        out = numbers(1)[0]
-        for many, call in ((5, lambda o, n: self.lib.wt_judge(*octets(book), o, n)),
-                           (2, lambda o, n: self.lib.wt_lookup(*octets(book), named(0), tag, o, n)),
-                           (0, lambda o, n: self.lib.wt_columns(*octets(book), ctypes.c_uint32(1), *tags, *flags, o, n)),
-                           (1, lambda o, n: self.lib.wt_columns(*octets(book), ctypes.c_uint32(1), *few, *flags, o, n)),
-                           (1, lambda o, n: self.lib.wt_columns(*octets(book), ctypes.c_uint32(1), *tags, *few, o, n)),
-                           (0, lambda o, n: self.lib.wt_set(lent, room, length, named(0), tag, *octets(b'Q\0'), o, n)),
-                           (0, lambda o, n: self.lib.wt_clear(lent, room, length, named(0), tag, o, n)),
-                           (0, lambda o, n: self.lib.wt_insert(lent, room, length, named(0), *octets(b'\4\0\0\0'), o, n)),
-                           (0, lambda o, n: self.lib.wt_delete(lent, room, length, named(0), o, n)),
-                           (9, lambda o, n: self.lib.wt_open(o, n, lent, room)),
-                           (9, lambda o, n: self.lib.wt_begin(o, n, *words([]), *words([]), *words([]), *words([]), lent, room)),
-                           (9, lambda o, n: self.lib.wt_finish(o, n, lent, room)),
-                           (9, lambda o, n: self.lib.wt_give_number(o, n, lent, room, tag, ctypes.c_uint32(1))),
-                           (9, lambda o, n: self.lib.wt_add_octets(o, n, lent, room, *octets(b'a')))):
-            out, outs = numbers(many)
-            answer = call(out, outs)
-            compare('short', (15, [SHIM] * max(many, 1), bytes(buffer), [7] * 128, [7] * 128),
-                    (answer, list(out), bytes(lent)[:len(buffer)], list(tags[0]), list(flags[0])))
 
 
 # ---- writings: make.py's stream, each call made on the library, too
@@ -136,55 +157,62 @@ class FaceWriting(make.WritingStream):
     def __init__(self, library):
         super().__init__()
         self.lib = library
-        self.state = numbers(10)[0]
-        self.lent = (ctypes.c_uint8 * 1)()
+        self.new(0)
 
     def new(self, length):
         super().new(length)
-        self.state = numbers(10)[0]
+        self.state = Writing()
         self.lent = octets(self.buffer)[0]
+        self.left = b''                         # the written octets, where the buffer is too short for them
+
+    def move(self, length):
+        """Another buffer for the library, too, with the written octets that the library left."""
+        if self.state.written <= len(self.buffer):
+            self.left = bytes(self.lent)[:self.state.written]
+        super().move(length)
+        self.lent = octets((self.left + b'\x5A' * length)[:length])[0]
 
     def spoil(self, length):
         super().spoil(length)
-        self.state[0] = length
+        self.state.written = length
 
     def call(self, payload):
-        before = list(self.state)
+        before = self.state.list()
         answer = super().call(payload)
         number = self.perform_on_library(payload[0], payload[1:])
-        got = bytes(self.lent)[:len(self.buffer)]
+        got = (number, self.state.place, self.state.written, bytes(self.lent)[:len(self.buffer)])
         if answer[0] == 'done':
-            compare(payload[:9], (0, answer[1], answer[1], bytes(self.buffer)), (number, self.state[9], self.state[0], got))
+            compare(payload[:9], (0, 0, answer[1], bytes(self.buffer)), got)
         else:
-            compare(payload[:9], (answer[1], answer[2], before[:9], bytes(self.buffer)), (number, self.state[9], list(self.state)[:9], got))
+            compare(payload[:9], (answer[1], answer[2], before[1], bytes(self.buffer)) + tuple(before[2:]), got + tuple(self.state.rest))
         return answer
 
     def perform_on_library(self, what, rest):
-        state, buffer = (self.state, ctypes.c_size_t(10)), (self.lent, ctypes.c_size_t(len(self.buffer)))
+        state, buffer = ctypes.byref(self.state), (self.lent, ctypes.c_size_t(len(self.buffer)))
         if what == 1:
             every = [make.least(rest[at:at + 4]) for at in range(4, len(rest), 4)]
             parts, at = [], 0
             for count in rest[:4]:
                 parts += words(every[at:at + count])
                 at += count
-            return self.lib.wt_begin(*state, *parts, *buffer)
+            return self.lib.wt_begin(state, *parts, *buffer)
         tag = ctypes.c_uint32(make.least(rest[:4]))
         number = ctypes.c_uint32(make.least(rest[4:8]))
         if what == 2:
-            return self.lib.wt_open(*state, *buffer)
+            return self.lib.wt_open(state, *buffer)
         if what == 3:
-            return self.lib.wt_give_number(*state, *buffer, tag, number)
+            return self.lib.wt_give_number(state, *buffer, tag, number)
         if what == 4:
-            return self.lib.wt_give_truth(*state, *buffer, tag, ctypes.c_uint32(rest[4] * 77))
+            return self.lib.wt_give_truth(state, *buffer, tag, ctypes.c_uint32(rest[4] * 77))
         if what == 5:
-            return self.lib.wt_give_octets(*state, *buffer, tag, *octets(rest[4:]))
+            return self.lib.wt_give_octets(state, *buffer, tag, *octets(rest[4:]))
         if what == 6:
-            return self.lib.wt_give_list(*state, *buffer, tag, number)
+            return self.lib.wt_give_list(state, *buffer, tag, number)
         if what == 7:
-            return self.lib.wt_add_number(*state, *buffer, tag)
+            return self.lib.wt_add_number(state, *buffer, tag)
         if what == 8:
-            return self.lib.wt_add_octets(*state, *buffer, *octets(rest))
-        return self.lib.wt_close(*state, *buffer) if what == 9 else self.lib.wt_finish(*state, *buffer)
+            return self.lib.wt_add_octets(state, *buffer, *octets(rest))
+        return self.lib.wt_close(state, *buffer) if what == 9 else self.lib.wt_finish(state, *buffer)
 
 
 class FaceCorrecting(make.CorrectingStream):
@@ -198,18 +226,18 @@ class FaceCorrecting(make.CorrectingStream):
         what, first, rest = payload[0], make.least(payload[1:5]), payload[5:]
         record = named(None if first == make.HEADER_RECORD else first)
         tag = ctypes.c_uint32(make.least(rest[:4]))
-        out, outs = numbers(1)
+        out = Length()
         if what == 1:
-            number = self.lib.wt_set(lent, room, length, record, tag, *octets(rest[4:]), out, outs)
+            number = self.lib.wt_set(lent, room, length, record, tag, *octets(rest[4:]), ctypes.byref(out))
         elif what == 2:
-            number = self.lib.wt_clear(lent, room, length, record, tag, out, outs)
+            number = self.lib.wt_clear(lent, room, length, record, tag, ctypes.byref(out))
         elif what == 3:
-            number = self.lib.wt_insert(lent, room, length, ctypes.c_uint64(first), *octets(rest), out, outs)
+            number = self.lib.wt_insert(lent, room, length, ctypes.c_uint64(first), *octets(rest), ctypes.byref(out))
         else:
-            number = self.lib.wt_delete(lent, room, length, ctypes.c_uint64(first), out, outs)
+            number = self.lib.wt_delete(lent, room, length, ctypes.c_uint64(first), ctypes.byref(out))
         answer = super().call(payload)
-        want = (0, answer[1]) if answer[0] == 'done' else (answer[1], answer[2])
-        compare(payload[:9], want + (bytes(self.buffer),), (number, out[0], bytes(lent)[:len(self.buffer)]))
+        want = (0, [0, answer[1]]) if answer[0] == 'done' else (answer[1], refused(out, answer[2]))
+        compare(payload[:9], want + (bytes(self.buffer),), (number, out.list(), bytes(lent)[:len(self.buffer)]))
         return answer
 
 
@@ -229,7 +257,6 @@ def read(face, rng):
                 face.lookup(book, record, tag)
     for length in range(0, 80):
         face.judge(books.small_book()[:length])
-    face.short(books.small_book(), books.small_book())
 
 
 def serials(face, rng):
@@ -243,6 +270,7 @@ def main():
     rng = random.Random(seed)
     library = load()
     face = Face(library)
+    face.version()
     read(face, rng)
     stream = FaceWriting(library)
     make.writing_begins(stream, rng)
@@ -251,6 +279,9 @@ def main():
     for _ in range(100):
         table = books.some_table(rng, header=rng.randrange(6), address=rng.choice((0, 1, 2, 5, 8, 9)), most=4)
         stream.play(len(oab.write_book(*table)) + rng.choice((-1, 0, 0, 9)), make.book_calls(table))
+    for _ in range(100):
+        table = books.some_table(rng, header=rng.randrange(6), address=rng.choice((0, 1, 2, 5, 8, 9)), most=4)
+        make.writing_moves(stream, rng, table)
     stream = FaceCorrecting(library)
     make.correcting_small(stream)
     make.correcting_chains(stream, rng)

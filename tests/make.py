@@ -549,6 +549,8 @@ class WritingStream(Stream):
       9 close
       10 finish
       11 the state's written length becomes 4 octets (always over the buffer)   "length VALUE SERIAL"
+      12 another buffer: 2 octets length, the written octets as far as it holds them, behind them
+        every octet 5A; the state stays                      "buffer LENGTH SERIAL"
     Calls 1 to 10 print "done LENGTH SERIAL" or "refused N P SERIAL"; SERIAL is always the
     serial of the whole buffer, after the call. A refused call leaves the state as it was, a
     refused begin too. After call 0 there is no state until a begin is taken: the stream
@@ -559,6 +561,7 @@ class WritingStream(Stream):
         super().__init__('writing_cases')
         self.buffer = bytearray()
         self.writing = oab.Writing()
+        self.written = b''                     # the written octets, where the buffer is too short for them
         self.answers = Counter()
 
     def new(self, length):
@@ -570,6 +573,14 @@ class WritingStream(Stream):
         assert length > len(self.buffer)
         self.writing.written = length
         self.add(b'\x0B' + oab.four(length), f'length {length} {oab.serial(self.buffer)}')
+
+    def move(self, length):
+        if self.writing.written <= len(self.buffer):
+            self.written = bytes(self.buffer[:self.writing.written])
+        self.buffer = bytearray((self.written + b'\x5A' * length)[:length])
+        if self.writing.buffer is not None:    # a begin was taken
+            self.writing.buffer = self.buffer
+        self.add(b'\x0C' + two(length), f'buffer {length} {oab.serial(self.buffer)}')
 
     def call(self, payload):
         """Make the call on the model and add it with its answer."""
@@ -814,6 +825,33 @@ def writing_keys(stream, rng):
     stream.play(100, [begin_call([], [(0x8CD8000D, 2)]), OPEN, CLOSE, OPEN, b'\x05' + oab.four(0x8CD8000D) + b'a', CLOSE, FINISH])
 
 
+def grown(stream, rng, call):
+    """The call, made again in a larger buffer after each 17."""
+    answer = stream.call(call)
+    while answer[:2] == ('refused', 17):
+        stream.move(len(stream.buffer) + rng.choice((1, 2, 5, 30)))
+        answer = stream.call(call)
+    return answer
+
+
+def writing_moves(stream, rng, table):
+    """A book whose buffer grows, moves and shrinks between the calls, once below what is written."""
+    calls = book_calls(table)
+    stream.new(rng.choice((0, 23, 24, 60)))
+    for call in calls:
+        written = stream.writing.written
+        if rng.random() < 0.5:
+            stream.move(written + rng.choice((0, 0, 1, 7, 100)))
+        if written and rng.random() < 0.1:
+            stream.move(rng.randrange(written))
+            assert stream.call(OPEN) == ('refused', 15, 0)
+            stream.move(written)
+        answer = grown(stream, rng, call)
+        assert answer[0] == 'done'
+    book = oab.write_book(*table)
+    assert answer == ('done', len(book)) and stream.buffer[:len(book)] == book
+
+
 def make_writing():
     stream = WritingStream()
     rng = random.Random(404)
@@ -838,6 +876,9 @@ def make_writing():
     for table in list(wide_tables(rng, 1)) + [books.some_table(rng, 16, 17, 3)]:
         book = oab.write_book(*table)
         assert stream.play(len(book), book_calls(table)) == ('done', len(book)) and stream.buffer == book
+    moved = random.Random(405)
+    for table in [books.SMALL_TABLE] + [books.some_table(moved, moved.randrange(6), moved.choice((0, 1, 5, 9)), 3) for _ in range(20)]:
+        writing_moves(stream, moved, table)
     for _ in range(110):                       # right calls with wrong ones between them
         table = books.some_table(rng, header=rng.randrange(4), address=rng.choice((1, 2, 5, 8, 9)), most=4)
         tags = [tag for tag, _ in table[0] + table[1]]

@@ -7,6 +7,7 @@ use Rattle.lookup.specs.declared.Which.{Which}
 use Rattle.lookup.specs.declared.Which.the-variants.{Header, Number}
 use Rattle.lookup.specs.declared.Looked.{Looked}
 use Rattle.lookup.specs.declared.Looked.the-variants as looked
+use Rattle.face_reading.specs.Lent.{placeAlone}
 
 -- a record by number; the greatest number is the header record
 unfoldable pub whichOf : ℕ → Which
@@ -17,8 +18,8 @@ lookedNumber (looked.At s e) = 0
 lookedNumber looked.Absent = 0
 lookedNumber (looked.Refused r) = r .number
 
--- whether there is a value, and where it starts and ends; or the refusal's place
-abbrev pub lookedValues : Looked → List ℕ
-lookedValues (looked.At s e) = 1 ∷ s ∷ e ∷ []
-lookedValues looked.Absent = 0 ∷ 0 ∷ 0 ∷ []
-lookedValues (looked.Refused r) = r .place ∷ []
+-- place, whether there is a value, and where it starts and ends
+abbrev pub lookedNumbers : Looked → List ℕ
+lookedNumbers (looked.At s e) = 0 ∷ 1 ∷ s ∷ e ∷ []
+lookedNumbers looked.Absent = 0 ∷ 0 ∷ 0 ∷ 0 ∷ []
+lookedNumbers (looked.Refused r) = placeAlone 3 r

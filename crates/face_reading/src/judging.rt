@@ -1,21 +1,16 @@
 // A book judged, the columns of its tables, and the serial of any octets.
 use book::Judged;
 use book::Judgement;
-use laying::lay;
-use laying::lay_halves;
 use table::Columns;
 ghost use mathlib.Core.Path.{_≡_};
-ghost use mathlib.Core.List.{[], _∷_};
-ghost use Rattle.octets.specs.Splice.{stored};
 ghost use Rattle.serial.specs.Serial.{serialOf};
 ghost use Rattle.book.specs.Judged.{judgedOf};
-ghost use Rattle.laying.specs.Lent.{lent, laid};
-ghost use Rattle.face_reading.specs.Judging.{judgedNumber, judgedValues, tableOf, shortOf, columnsValues, columnsIn, columnsAnswer, columnsTags, columnsFlags, columnsOut};
+ghost use Rattle.face_reading.specs.Judging.{judgedNumber, judgedBy, judgedNumbers, tableOf, columnsNumbers};
+ghost use Rattle.face_reading.specs.Judging.{columnsLeft};
 
-fn judgement_number(j: Judgement) -> u32
-    ensures { λ r. ⌜ r ≡ judgedNumber (j .judged) ⌝ }
+fn judged_number(judged: Judged) -> u32
+    ensures { λ r. ⌜ r ≡ judgedNumber judged ⌝ }
 {
-    let judged = j.judged;
     match judged {
         Judged::Good {
             length: _,
@@ -27,47 +22,40 @@ fn judgement_number(j: Judgement) -> u32
     }
 }
 
-fn lay_judgement(j: Judgement, out: &mut [u64])
-    ensures { λ _. ⌜ now (out .exit) ≡ stored (now (out .entry)) 0 (judgedValues j) ⌝ }
+fn judged_numbers(judged: Judged, heads: usize, cols: usize) -> [u64; 7]
+    ensures { λ r. ⌜ r ≡ judgedBy judged heads cols ⌝ }
 {
-    let judged = j.judged;
-    let header = j.header;
-    let address = j.address;
     match judged {
         Judged::Good {
             length,
             count,
-            header: place,
+            header,
             first,
-        } => {
-            let values = [
-                length as u64,
-                count as u64,
-                place as u64,
-                first as u64,
-                header.count as u64,
-                address.count as u64,
-            ];
-            lay(out, 0, &values);
-        }
-        Judged::Refused(r) => {
-            let values = [r.place as u64];
-            lay(out, 0, &values);
-        }
+        } => [
+            0,
+            length as u64,
+            count as u64,
+            header as u64,
+            first as u64,
+            heads as u64,
+            cols as u64,
+        ],
+        Judged::Refused(r) => [r.place as u64, 0, 0, 0, 0, 0, 0],
     }
 }
 
-// Length, count, the places of the header record and of the first address record, the columns of each table.
+// Place, length, count, the places of the header record and of the first address record, the columns of each table.
 #[no_mangle]
-pub extern "C" fn wt_judge(book: &[u8], out: &mut [u64]) -> u32
-    ensures { λ r. ⌜ (r ≡ lent 6 (now (out .entry)) (judgedNumber (judgedOf (now (book .entry)) .judged))) × (now (out .exit) ≡ laid 6 (now (out .entry)) (judgedValues (judgedOf (now (book .entry))))) ⌝ }
+pub extern "C" fn wt_judge(book: &[u8], out: &mut [u64; 7]) -> u32
+    ensures { λ r. ⌜ (r ≡ judgedNumber (judgedOf (now (book .entry)) .judged))
+        × (now (out .exit) ≡ judgedNumbers (judgedOf (now (book .entry)))) ⌝ }
 {
-    if out.len() < 6 {
-        return answers::OUT_OF_TURN;
-    }
     let j = book::judge(book);
-    lay_judgement(j, out);
-    judgement_number(j)
+    let judged = j.judged;
+    let header = j.header;
+    let address = j.address;
+    *out = judged_numbers(judged, header.count, address.count);
+    judged_number(judged)
 }
 
 // ---- the columns of a table
@@ -82,31 +70,24 @@ fn table_of(j: Judgement, address: u32) -> Columns
     j.address
 }
 
-fn short(tags: &[u32], flags: &[u32], out: &[u64]) -> bool
-    ensures { λ r. ⌜ r ≡ shortOf (now (tags .entry)) (now (flags .entry)) (now (out .entry)) ⌝ }
+// The tags and the flags of a table, each with zeros behind up to 128; place and how many columns it has.
+#[no_mangle]
+pub extern "C" fn wt_columns(
+    book: &[u8],
+    address: u32,
+    tags: &mut [u32; 128],
+    flags: &mut [u32; 128],
+    out: &mut [u64; 2],
+) -> u32
+    ensures { λ r. ⌜ (r ≡ judgedNumber (judgedOf (now (book .entry)) .judged))
+        × (now (tags .exit) ≡ columnsLeft (judgedOf (now (book .entry)) .judged) (now (tags .entry))
+        (tableOf (judgedOf (now (book .entry))) address .tags))
+        × (now (flags .exit) ≡ columnsLeft (judgedOf (now (book .entry)) .judged) (now (flags .entry))
+        (tableOf (judgedOf (now (book .entry))) address .flags))
+        × (now (out .exit) ≡ columnsNumbers (judgedOf (now (book .entry)) .judged)
+        (tableOf (judgedOf (now (book .entry))) address .count)) ⌝ }
 {
-    if tags.len() < 128 {
-        return true;
-    }
-    if flags.len() < 128 {
-        return true;
-    }
-    out.len() < 1
-}
-
-fn lay_table(t: Columns, tags: &mut [u32], flags: &mut [u32], out: &mut [u64])
-    ensures { λ _. ⌜ (now (tags .exit) ≡ stored (now (tags .entry)) 0 (t .tags)) × (now (flags .exit) ≡ stored (now (flags .entry)) 0 (t .flags)) × (now (out .exit) ≡ stored (now (out .entry)) 0 (t .count ∷ [])) ⌝ }
-{
-    let values = [t.count as u64];
-    lay_halves(tags, 0, &t.tags);
-    lay_halves(flags, 0, &t.flags);
-    lay(out, 0, &values);
-}
-
-// A refusal leaves the columns.
-fn lay_columns(j: Judgement, address: u32, tags: &mut [u32], flags: &mut [u32], out: &mut [u64])
-    ensures { λ _. ⌜ (now (tags .exit) ≡ columnsIn j (now (tags .entry)) (tableOf j address .tags)) × (now (flags .exit) ≡ columnsIn j (now (flags .entry)) (tableOf j address .flags)) × (now (out .exit) ≡ stored (now (out .entry)) 0 (columnsValues j address)) ⌝ }
-{
+    let j = book::judge(book);
     let judged = j.judged;
     match judged {
         Judged::Good {
@@ -116,35 +97,18 @@ fn lay_columns(j: Judgement, address: u32, tags: &mut [u32], flags: &mut [u32], 
             first: _,
         } => {
             let t = table_of(j, address);
-            lay_table(t, tags, flags, out);
+            let every_tag = t.tags;
+            let every_flag = t.flags;
+            *tags = every_tag;
+            *flags = every_flag;
+            *out = [0, t.count as u64];
+            0
         }
         Judged::Refused(r) => {
-            let values = [r.place as u64];
-            lay(out, 0, &values);
+            *out = [r.place as u64, 0];
+            r.number
         }
     }
-}
-
-// The tags and the flags of a table, each with zeros behind up to 128, and how many columns it has.
-#[no_mangle]
-pub extern "C" fn wt_columns(
-    book: &[u8],
-    address: u32,
-    tags: &mut [u32],
-    flags: &mut [u32],
-    out: &mut [u64],
-) -> u32
-    ensures { λ r. ⌜ (r ≡ columnsAnswer (now (tags .entry)) (now (flags .entry)) (now (out .entry)) (judgedOf (now (book .entry))))
-        × (now (tags .exit) ≡ columnsTags (now (tags .entry)) (now (flags .entry)) (now (out .entry)) (judgedOf (now (book .entry))) address)
-        × (now (flags .exit) ≡ columnsFlags (now (tags .entry)) (now (flags .entry)) (now (out .entry)) (judgedOf (now (book .entry))) address)
-        × (now (out .exit) ≡ columnsOut (now (tags .entry)) (now (flags .entry)) (now (out .entry)) (judgedOf (now (book .entry))) address) ⌝ }
-{
-    if short(tags, flags, out) {
-        return answers::OUT_OF_TURN;
-    }
-    let j = book::judge(book);
-    lay_columns(j, address, tags, flags, out);
-    judgement_number(j)
 }
 
 // The serial that a book has whose octets from 12 on are these.

@@ -1,13 +1,13 @@
--- The ten numbers carry a writing from call to call: the next call takes up the state that a call hands back. Numbers that no call lays out are out of turn.
+-- The ten numbers carry a writing from call to call: the next call takes up the state that a call hands back. Numbers
+-- that no call leaves are out of turn.
 use Prim.Native.Nat.{ℕ, _≤_, _<_}
 use native.Mathlib.Omega.{arith}
 use mathlib.Core.Path.{_≡_, refl}
 use mathlib.Core.Bool.{Bool, true, false, cond}
 use mathlib.Core.List.{List, [], _∷_}
 use lib.Dec.{eqb, ltb}
-use lib.ListN.{length, getD}
+use lib.ListN.{length, getD, set}
 use borrow.Author.Tests.{lt-ltb, le-ltb, ne-eqb}
-use Rattle.octets.specs.Splice.{splice, stored, stored-in, splice-before}
 use Rattle.answers.specs.Numbers.{outOfTurn}
 use Rattle.answers.specs.declared.Verdict.{Verdict}
 use Rattle.answers.specs.declared.Verdict.the-variants.{Clear as clear, Refused}
@@ -17,42 +17,39 @@ use Rattle.writing.specs.State.{settled, refusedWith, saneOf, idleOf, withinOf}
 use Rattle.writing.specs.Column.{columnFor}
 use Rattle.framing.specs.Frame.{openAt, openOutcome, closeAt, closeOutcome, finishAt, finishOutcome}
 use Rattle.giving.specs.Give.{Given, giveAt, giveOutcome, elementAt, elementOutcome}
-use Rattle.face_writing.specs.Calling.{formFrom, stageFrom, stateOf, fieldsOf, faceState}
+use Rattle.face_writing.specs.Calling.{formFrom, stageFrom, stateOf, fieldsOf, stateLeft}
 
 -- ---- from call to call
 
-module _ (xs : List ℕ) (h : 10 ≤ length xs) where
-  pub back-done : (st : Writing) (n : ℕ) → st .form ≤ 255 → st .stage ≤ 255 → stateOf (stored xs 0 (fieldsOf st n)) ≡ st
-  unfolding stateOf fieldsOf splice formFrom stageFrom
-  back-done st n f s = rw (stored-in xs 0 (fieldsOf st n) h, le-ltb 255 (st .form) f, le-ltb 255 (st .stage) s)
+pub back-done : (st : Writing) → st .form ≤ 255 → st .stage ≤ 255 → stateOf (fieldsOf st) ≡ st
+unfolding stateOf formFrom stageFrom
+back-done st f s = rw (le-ltb 255 (st .form) f, le-ltb 255 (st .stage) s)
 
-  before : (p i : ℕ) → i < 9 → getD (stored xs 9 (p ∷ [])) i 0 ≡ getD xs i 0
-  before p i k = rw (stored-in xs 9 (p ∷ []) h) (splice-before xs 9 (p ∷ []) i k (omega arith))
+pub back-refused : (xs : List ℕ) (p : ℕ) → stateOf (set xs 0 p) ≡ stateOf xs
+unfolding stateOf
+back-refused [] p = refl
+back-refused (x ∷ xs) p = refl
 
-  pub back-refused : (p : ℕ) → stateOf (stored xs 9 (p ∷ [])) ≡ stateOf xs
-  unfolding stateOf
-  back-refused p =
-      rw (before p 0 (omega arith), before p 1 (omega arith), before p 2 (omega arith), before p 3 (omega arith), before p 4 (omega arith), before p 5 (omega arith), before p 6 (omega arith), before p 7 (omega arith), before p 8 (omega arith))
+-- every call's outcome is settled by a verdict
+pub carried : (xs : List ℕ) (v : Verdict) (next : Writing) → next .form ≤ 255 → next .stage ≤ 255
+    → stateOf (stateLeft xs (settled v (stateOf xs) next)) ≡ settled v (stateOf xs) next .state
+unfolding stateLeft
+carried xs clear next f s = back-done next f s
+carried xs (Refused r) next f s = back-refused xs (r .place)
 
-  -- every call's outcome is settled by a verdict
-  pub carried : (v : Verdict) (next : Writing) → next .form ≤ 255 → next .stage ≤ 255 → stateOf (faceState xs (settled v (stateOf xs) next)) ≡ settled v (stateOf xs) next .state
-  unfolding faceState
-  carried clear next f s = rw (le-ltb (length xs) 10 h) (back-done next (next .written) f s)
-  carried (Refused r) next f s = rw (le-ltb (length xs) 10 h) (back-refused (r .place))
+-- ---- numbers that no call leaves
 
--- ---- numbers that no call lays out
-
-pub wide-form : (xs : List ℕ) → 255 < getD xs 7 0 → stateOf xs .stage ≡ 2
+pub wide-form : (xs : List ℕ) → 255 < getD xs 8 0 → stateOf xs .stage ≡ 2
 unfolding stateOf stageFrom
-wide-form xs h = rw (lt-ltb 255 (getD xs 7 0) h)
+wide-form xs h = rw (lt-ltb 255 (getD xs 8 0) h)
 
 same : (t : Bool) (x : ℕ) → cond t x x ≡ x
 same true x = refl
 same false x = refl
 
-pub wide-stage : (xs : List ℕ) → 255 < getD xs 8 0 → stateOf xs .stage ≡ 2
+pub wide-stage : (xs : List ℕ) → 255 < getD xs 9 0 → stateOf xs .stage ≡ 2
 unfolding stateOf stageFrom
-wide-stage xs h = rw (lt-ltb 255 (getD xs 8 0) h) (same (ltb 255 (getD xs 7 0)) 2)
+wide-stage xs h = rw (lt-ltb 255 (getD xs 9 0) h) (same (ltb 255 (getD xs 8 0)) 2)
 
 pub no-stage : (st : Writing) → st .stage ≡ 2 → st .stage ≡ 0 → ⊥
 no-stage st e z = omega arith

@@ -119,11 +119,11 @@ fn call(what: u32, st: Writing, case: &[u8], buf: &mut [u8]) -> Outcome {
 
 // ---- what is no call
 
-// Every octet becomes A5.
-fn fill(buf: &mut [u8]) {
-    let mut i = 0;
+// Every octet from `from` on becomes the filler.
+fn fill(buf: &mut [u8], from: usize, filler: u8) {
+    let mut i = from;
     while i < buf.len() {
-        buf[i] = 0xA5;
+        buf[i] = filler;
         i += 1;
     }
 }
@@ -173,14 +173,12 @@ struct Step {
     at: usize,
 }
 
-fn new_buffer(buf: &mut [u8], out: &mut [u8; 4096], at: usize) -> Step {
-    fill(buf);
+// A new buffer, or another one that has the written octets of the state in front.
+fn new_buffer(st: Writing, filler: u8, buf: &mut [u8], out: &mut [u8; 4096], at: usize) -> Step {
+    fill(buf, st.written, filler);
     let at = words(out, at, b"buffer");
     let at = next_decimal(out, at, buf.len() as u64);
-    Step {
-        state: begin::no_writing(),
-        at,
-    }
+    Step { state: st, at }
 }
 
 fn new_written(st: Writing, written: u32, out: &mut [u8; 4096], at: usize) -> Step {
@@ -196,7 +194,10 @@ fn new_written(st: Writing, written: u32, out: &mut [u8; 4096], at: usize) -> St
 fn one_case(case: &[u8], buf: &mut [u8], st: Writing, out: &mut [u8; 4096], at: usize) -> Step {
     let what = octet(case, 0);
     if what == 0 {
-        return new_buffer(buf, out, at);
+        return new_buffer(begin::no_writing(), 0xA5, buf, out, at);
+    }
+    if what == 12 {
+        return new_buffer(st, 0x5A, buf, out, at);
     }
     if what == 11 {
         return new_written(st, word32(case, 1), out, at);
@@ -208,9 +209,13 @@ fn one_case(case: &[u8], buf: &mut [u8], st: Writing, out: &mut [u8; 4096], at: 
     Step { state, at }
 }
 
-// The length of the buffer: a case of kind 0 says another.
+// The length of the buffer: a case of kind 0 or 12 says another.
 fn buffer_length(case: &[u8], len: usize) -> usize {
-    if octet(case, 0) == 0 {
+    let what = octet(case, 0);
+    if what == 0 {
+        return (word32(case, 1) % 65536) as usize;
+    }
+    if what == 12 {
         return (word32(case, 1) % 65536) as usize;
     }
     len

@@ -1,32 +1,33 @@
-use Rattle.laying.specs.Lent.{short-answer, short-kept, short-spared}
-use Rattle.face_correcting.specs.Cases.{mended-number, mended-laid, mended-octets}
 use borrow.Author.Needs.{needs}
 use Rattle.face_correcting.proofs.wt_insert.Statement.{statement}
 use Rattle.face_correcting.proofs.wt_insert.Tie as tie
 use Rattle.face_correcting.proofs.wt_insert.Reads as reads
 use Rattle.face_correcting.proofs.wt_insert.Lts as lts
-use Rattle.face_correcting.proofs.lay_corrected.Reads as lay-corrected-reads
+use Rattle.face_correcting.proofs.corrected_number.Reads as corrected-number-reads
+use Rattle.face_correcting.proofs.corrected_numbers.Reads as corrected-numbers-reads
 use Rattle.inserting.proofs.insert.Reads as insert-reads
-
-returns : tie.Need-returns
-returns c = (search short-answer, search short-kept, search short-spared)
 
 insert-requires : tie.Need-insert-requires
 insert-requires c κs = search needs
 
-lay-corrected-requires : tie.Need-lay-corrected-requires
-lay-corrected-requires c κs = search needs
+corrected-numbers-requires : tie.Need-corrected-numbers-requires
+corrected-numbers-requires c κs = search needs
+
+corrected-number-requires : tie.Need-corrected-number-requires
+corrected-number-requires c κs = search needs
 
 same-length : tie.Need-same-length
 same-length c = search needs
 
-same-length-2 : tie.Need-same-length-2
-same-length-2 c = search needs
-
-returns-2 : tie.Need-returns-2
-returns-2 c = (search mended-number, search mended-laid, search mended-octets)
+returns : tie.Need-returns
+returns c = (cc, cc, cc)
 
 pub wt-insert-spec : {M : Type 1} → statement M
 wt-insert-spec =
     tie.close
-    (tie.spec returns insert-requires lay-corrected-requires same-length same-length-2 returns-2)
+    (tie.spec
+    insert-requires
+    corrected-numbers-requires
+    corrected-number-requires
+    same-length
+    returns)

@@ -1,15 +1,15 @@
 use lib.ListN.{length}
 use mathlib.Core.Path.{_≡_}
-use Prim.Native.Nat.{_-_, _≤_}
+use Prim.Native.Nat.{_-_}
 use borrow.Author.Needs.{needs}
 use Rattle.writing_cases.proofs.fill.Statement.{statement}
 use Rattle.writing_cases.proofs.fill.Tie as tie
 
 abbrev Inv-loop : tie.InvT-loop
-Inv-loop buf₀ i₀ buf i = (i ≤ length buf₀) × (length buf ≡ length buf₀)
+Inv-loop buf₀ from filler i₀ buf i = length buf ≡ length buf₀
 
 abbrev μ-loop : tie.MeasureT-loop
-μ-loop buf₀ i₀ buf i = length buf₀ - i
+μ-loop buf₀ from filler i₀ buf i = length buf₀ - i
 
 loop-holds : tie.Need-loop-holds Inv-loop μ-loop
 loop-holds c = search needs

@@ -1,5 +1,4 @@
 use Rattle.face_reading.specs.Cases.{table-header, table-address}
-use borrow.Author.Needs.{needs}
 use Rattle.face_reading.proofs.judging.table_of.Statement.{statement}
 use Rattle.face_reading.proofs.judging.table_of.Tie as tie
 use Rattle.face_reading.proofs.judging.table_of.Reads as reads

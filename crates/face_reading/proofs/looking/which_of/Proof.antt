@@ -1,5 +1,4 @@
 use Rattle.face_reading.specs.Cases.{which-header, which-number}
-use borrow.Author.Needs.{needs}
 use Rattle.face_reading.proofs.looking.which_of.Statement.{statement}
 use Rattle.face_reading.proofs.looking.which_of.Tie as tie
 use Rattle.face_reading.proofs.looking.which_of.Reads as reads
