@@ -18,6 +18,10 @@ octetAt xs i = getD xs i 0
 abbrev pub Octets : List ℕ → Type 0
 Octets xs = (i : ℕ) → octetAt xs i < 256
 
+-- the stretch from s up to e lies within l octets
+abbrev pub Lies : ℕ → ℕ → ℕ → Type 0
+Lies s e l = (s ≤ e) × (e ≤ l)
+
 pub octets-drop : (n : ℕ) (xs : List ℕ) → Octets xs → Octets (drop n xs)
 octets-drop n xs o i = rw getD-drop (o (n + i))
 

@@ -4,12 +4,12 @@ use native.Mathlib.Omega.{arith}
 use mathlib.Core.Path.{_≡_, refl, sym, ap, ap₂, _∙_}
 use mathlib.Core.List.{List, [], _∷_, _++_, append-assoc}
 use lib.ListN.{length, take, drop, set, length-append, length-drop, length-set, take-append-drop}
-use lib.Seq.{length-take-le, take-at, drop-at, take-take, take-add, take-set-le, drop-set-lt, drop-cons, drop-drop,
-    drop-append-add, getD-set-same}
+use lib.Seq.{length-take-le, take-at, drop-at, take-take, take-add, take-set-le, drop-set-lt, drop-cons, drop-drop}
+use lib.Seq.{drop-append-add, getD-set-same}
 use borrow.Rule.Slice.PartMut.{putMid}
 use Rattle.octets.specs.Cases.{split}
-use Rattle.octets.specs.Splice.{splice, splice-nil, splice-cons, splice-join, splice-within, length-splice, stored,
-    stored-in, stored-out, stored-join}
+use Rattle.octets.specs.Splice.{splice, splice-nil, splice-cons, splice-join, splice-within, length-splice}
+use Rattle.octets.specs.Splice.{stored, stored-in, stored-out, stored-join}
 
 -- ---- one octet more
 
@@ -123,7 +123,8 @@ stored-before d i j ws xs e h =
     let n : length (ws ++ xs) ≡ length ws + length xs = length-append ws xs in
     let m : j + length xs ≡ i + length (ws ++ xs) = omega arith in
     let f : take i (splice d j xs) ≡ take i d =
-    sym (take-take i j (splice d j xs) (omega arith)) ∙ ap (take i) (front-is d j xs h) ∙ take-take i j d (omega arith) in
+    sym (take-take i j (splice d j xs) (omega arith)) ∙ ap (take i) (front-is d j xs h)
+    ∙ take-take i j d (omega arith) in
     let r : drop (i + length ws) (splice d j xs) ≡ xs ++ drop (i + length (ws ++ xs)) d =
     ap (λ (k : ℕ). drop k (splice d j xs)) (sym e) ∙ from-is d j xs h ∙ ap (λ (k : ℕ). xs ++ drop k d) m in
     rw (stored-in d j xs h, stored-in d i (ws ++ xs) (omega arith), stored-in (splice d j xs) i ws (omega arith))

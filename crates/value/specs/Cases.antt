@@ -18,8 +18,8 @@ use Rattle.whole.specs.declared.Number.the-variants.{Is, Broken as NoNumber}
 use Rattle.whole.specs.Number.{numberOf as wholeOf}
 use Rattle.text.specs.Narrow.{narrowOf}
 use Rattle.text.specs.Utf8.{textOf}
-use Rattle.value.specs.Types.{Kind, number, truth, narrow, text, binary, kindNumber, listForm, formsEnd, unknownForm, kindAt, formAt,
-    Row, types, formIn, numberOf}
+use Rattle.value.specs.Types.{Kind, number, truth, narrow, text, binary, kindNumber, listForm, formsEnd}
+use Rattle.value.specs.Types.{unknownForm, kindAt, formAt, Row, types, formIn, numberOf}
 use Rattle.value.specs.Value.{counted, numericOf, truthOf, binaryOf, elementOf, listFrom, listOf, valueOf}
 use Rattle.value.specs.Within.{element-within}
 
@@ -45,7 +45,8 @@ rows-next [] i h = absurd (omega arith)
 rows-next (r ∷ rs) zero h = refl
 rows-next (r ∷ rs) (suc i) h = rows-next rs i (omega arith)
 
-types-next : (i : ℕ) → i < 10 → drop i types ≡ record { code = getD codes i 0; form = getD forms i 0 } ∷ drop (suc i) types
+types-next : (i : ℕ) → i < 10
+    → drop i types ≡ record { code = getD codes i 0; form = getD forms i 0 } ∷ drop (suc i) types
 types-next i h = rows-next types i h
 
 module _ (code i : ℕ) (inv : formIn code (drop i types) ≡ numberOf code) where
@@ -108,7 +109,8 @@ module _ (r : Number) (s : List ℕ) where
     unfolding binaryOf
     binary-short h i = rw (← q, e) (simp (le-ltb n 1 h, lt-leb n (length s - w) i))
 
-pub ruleset singles = (numeric-is, numeric-no, truth-none, truth-is, truth-no, binary-no, binary-none, binary-is, binary-short)
+pub ruleset singles =
+    (numeric-is, numeric-no, truth-none, truth-is, truth-no, binary-no, binary-none, binary-is, binary-short)
 
 -- ---- an element, by the number of its kind
 
@@ -133,12 +135,18 @@ module _ (k : ℕ) {r : Walk} (s : List ℕ) where
   unfolding elementOf
   element-binary e q = rw e q
 
-pub element-none : (k : ℕ) (s : List ℕ) → (k ≡ kindNumber number → ⊥) → (k ≡ kindNumber truth → ⊥) → (k ≡ kindNumber narrow → ⊥)
+pub element-none : (k : ℕ) (s : List ℕ) → (k ≡ kindNumber number → ⊥) → (k ≡ kindNumber truth → ⊥)
+    → (k ≡ kindNumber narrow → ⊥)
     → (k ≡ kindNumber text → ⊥) → (k ≡ kindNumber binary → ⊥) → broken ≡ elementOf (kindAt k) s
 unfolding elementOf
 element-none k s h₁ h₂ h₃ h₄ h₅ =
-    simp (ne-eqb k (kindNumber number) h₁, ne-eqb k (kindNumber truth) h₂, ne-eqb k (kindNumber narrow) h₃,
-    ne-eqb k (kindNumber text) h₄, ne-eqb k (kindNumber binary) h₅)
+    simp (
+      ne-eqb k (kindNumber number) h₁,
+      ne-eqb k (kindNumber truth) h₂,
+      ne-eqb k (kindNumber narrow) h₃,
+      ne-eqb k (kindNumber text) h₄,
+      ne-eqb k (kindNumber binary) h₅,
+    )
 
 pub ruleset elements = (element-number, element-truth, element-narrow, element-text, element-binary, element-none)
 
@@ -158,7 +166,8 @@ module _ (k : Kind) (r : Number) (s : List ℕ) where
     unfolding listOf
     list-start h = rw (← q, e) (simp (le-ltb n 1 h))
 
-list-step : (k : Kind) (n i : ℕ) (xs : List ℕ) → 0 < n → listFrom k n i xs ≡ onto (elementOf k xs) (λ w. listFrom k (n - 1) (i + w) (drop w xs))
+list-step : (k : Kind) (n i : ℕ) (xs : List ℕ) → 0 < n
+    → listFrom k n i xs ≡ onto (elementOf k xs) (λ w. listFrom k (n - 1) (i + w) (drop w xs))
 unfolding listFrom
 list-step k zero i xs h = absurd (omega arith)
 list-step k (suc n) i xs h = let e : suc n - 1 ≡ n = omega arith in simp e
@@ -179,7 +188,8 @@ module _ (k : Kind) (s : List ℕ) (left i : ℕ) (inv : listFrom k left i (drop
         let z : elementOf k (drop i s) ≡ Ends w = rw rest-of at (sym q) ∙ e in
         simp (list-step k left i (drop i s) h, z, drop-drop) at inv
 
-module _ (k : Kind) (s : List ℕ) (i : ℕ) (r : Walk) (q : r ≡ elementOf k (take (length s - i) (drop i s))) (h : i ≤ length s) (w : ℕ) (e : r ≡ Ends w) where
+module _ (k : Kind) (s : List ℕ) (i : ℕ) (r : Walk) (q : r ≡ elementOf k (take (length s - i) (drop i s)))
+    (h : i ≤ length s) (w : ℕ) (e : r ≡ Ends w) where
   pub list-in : i + w ≤ length s
   list-in =
       let z : elementOf k (drop i s) ≡ Ends w = rw rest-of at (sym q) ∙ e in

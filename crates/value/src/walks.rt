@@ -1,5 +1,4 @@
 // The walk over a value of each form.
-use answers::Walk;
 use crate::types::BINARY;
 use crate::types::FORMS;
 use crate::types::LIST;
@@ -7,6 +6,7 @@ use crate::types::NARROW;
 use crate::types::NUMBER;
 use crate::types::TEXT;
 use crate::types::TRUTH;
+use answers::Walk;
 use whole::Number;
 ghost use mathlib.Core.Path.{_≡_};
 ghost use Rattle.value.specs.Types.{kindAt, formAt};
