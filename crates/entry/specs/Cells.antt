@@ -1,4 +1,5 @@
--- The cells of a record: where the value of each column starts and ends. A cell holds what the row that is read there has in that column.
+-- The cells of a record: where the value of each column starts and ends. A cell holds what the row that is read there
+-- has in that column.
 use Prim.Native.Nat.{ℕ, zero, suc, _+_, _-_, _^_, _≤_, _<_}
 use native.Mathlib.Omega.{arith}
 use native.Mathlib.Numerals.{one-add}
@@ -30,7 +31,8 @@ use Rattle.entry.specs.Slots.{slotsFrom, slots-many, stepOf}
 use Rattle.entry.specs.Read.{widthOf, entryBy, entryAt, rowFrom, rowIn, row-in}
 use Rattle.entry.specs.declared.cells.Cells.{Cells}
 
--- an edge in front of each value from bit i on, and one behind the last; ys is what is left of the record, and stands at `at`
+-- an edge in front of each value from bit i on, and one behind the last; ys is what is left of the record, and stands
+-- at `at`
 unfoldable pub edgesFrom : List ℕ → ℕ → List ℕ → ℕ → List ℕ → List ℕ
 edgesFrom [] i p at ys = at ∷ []
 edgesFrom (f ∷ forms) i p at ys =

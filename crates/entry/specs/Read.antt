@@ -1,4 +1,5 @@
--- The row that stands in a record, read from any octets: a value that breaks is read as absent, and the walk goes on from its start. What a sound row
+-- The row that stands in a record, read from any octets: a value that breaks is read as absent, and the walk goes on
+-- from its start. What a sound row
 -- is written as reads back as that row.
 use Prim.Native.Nat.{ℕ, suc, _^_, _<_}
 use mathlib.Core.Path.{_≡_, refl, ap}

@@ -32,7 +32,8 @@ pub fn no_cells() -> Cells
 
 // How many octets the value of column i takes; none where it is absent or breaks its form.
 pub fn column_width(p: &[u8], i: usize, form: u8, s: &[u8]) -> usize
-    ensures { λ r. ⌜ (r ≡ widthOf (stepOf (now (p .entry)) i (formAt form) (now (s .entry)))) × (r ≤ length (now (s .entry))) ⌝ }
+    ensures { λ r. ⌜ (r ≡ widthOf (stepOf (now (p .entry)) i (formAt form) (now (s .entry))))
+        × (r ≤ length (now (s .entry))) ⌝ }
 {
     let walk = walk_column(p, i, form, s);
     let Walk::Ends(w) = walk else {
@@ -59,7 +60,8 @@ fn fill_cells(p: &[u8], forms: &[u8], s: &[u8], at: usize) -> Cells
 }
 
 // The cells of a record: `p` has its presence octets, `forms` the form of each column's values, and `s` is what follows
-// the presence octets in the record and stands at `at`. No record has more columns or octets than a book may; where these
+// the presence octets in the record and stands at `at`. No record has more columns or octets than a book may; where
+// these
 // do, there are no cells.
 pub fn read_cells(p: &[u8], forms: &[u8], s: &[u8], at: usize) -> Cells
     ensures { λ r. ⌜ r ≡ cellsOf (now (forms .entry)) 0 (now (p .entry)) at (now (s .entry)) ⌝ }

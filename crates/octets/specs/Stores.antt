@@ -1,4 +1,5 @@
--- Stores one behind the other, over one another and before one another: what is laid down in parts is one store. Assumes nothing.
+-- Stores one behind the other, over one another and before one another: what is laid down in parts is one store.
+-- Assumes nothing.
 use Prim.Native.Nat.{ℕ, zero, suc, _+_, _-_, _≤_, _<_}
 use native.Mathlib.Omega.{arith}
 use mathlib.Core.Path.{_≡_, refl, sym, ap, ap₂, _∙_}

@@ -8,7 +8,8 @@ use native.Mathlib.Omega.{arith}
 use native.Mathlib.Numerals.{add-one}
 use lib.Arith.{lt-one}
 use lib.Dec.{ltb}
-use lib.ListN.{length, take, drop, getD, set, length-append, length-take, length-drop, take-append-drop, drop-of-length-le}
+use lib.ListN.{length, take, drop, getD, set, length-append, length-take, length-drop, take-append-drop}
+use lib.ListN.{drop-of-length-le}
 use lib.Seq.{drop-cons, take-all, take-at, length-take-le}
 use borrow.Author.Tests.{lt-ltb, le-ltb}
 use mir.Syntax.{w8, w64}

@@ -24,7 +24,10 @@ use Rattle.table.specs.declared.Found.the-variants.{At, Nothing}
 use Rattle.table.specs.Repeat.{repeatAt, repeat-is, repeatOf, foundAt, repeat-below}
 use Rattle.table.specs.Table.{Column, codeOf, rowAt, columnsAt, tableAt, columnsOf, tableOf}
 use Rattle.answers.specs.Padded.{padded, padded-long, padded-more}
-use Rattle.table.specs.Columns.{tagsOf, bitsOf, formsOf, columnsIn, noColumns, kept, noTable, judgedTo, settled, tableIn, plainAt, oneMore, readTo, filledTo, agree, read-all, read-most, columns-long, columnAt, columns-snoc, tags-snoc, bits-snoc, forms-snoc, tags-long, bits-long, forms-long}
+use Rattle.table.specs.Columns.{tagsOf, bitsOf, formsOf, columnsIn, noColumns, kept, noTable, judgedTo, settled}
+use Rattle.table.specs.Columns.{tableIn, plainAt, oneMore, readTo, filledTo, agree, read-all, read-most}
+use Rattle.table.specs.Columns.{columns-long, columnAt, columns-snoc, tags-snoc, bits-snoc, forms-snoc}
+use Rattle.table.specs.Columns.{tags-long, bits-long, forms-long}
 
 -- ---- judge_row
 
@@ -165,7 +168,8 @@ unfolding tableIn tableAt
 table-short b at v t l e q = rw (q, e, length-drop at b, lt-leb 4 (length b - at) l)
 
 module _ (b : List ℕ) (at n : ℕ) (l : 4 ≤ length b - at) (w : n ≡ wordOf 4 (drop at b)) where
-  pub table-many : (v : Verdict) (t : Table) → mostColumns < n → v ≡ refused manyColumns at → t ≡ noTable v → t ≡ tableIn at (drop at b)
+  pub table-many : (v : Verdict) (t : Table) → mostColumns < n → v ≡ refused manyColumns at → t ≡ noTable v
+      → t ≡ tableIn at (drop at b)
   unfolding tableIn tableAt
   table-many v t h e q = rw (q, e, length-drop at b, le-leb 4 (length b - at) l, ← w, lt-leb n mostColumns h)
 
@@ -232,7 +236,8 @@ module _ (t : Table) (at : ℕ) (f : Found) (g : f ≡ repeatOf (take (t .column
 pub ruleset settles = (settle-repeat, settle-stop, settle-good)
 
 -- the tags that were read stand in their array
-module _ (t : Table) (n at : ℕ) (xs : List ℕ) (q : t ≡ filledTo n at xs) (h : t .columns .count ≤ n) (k : n ≤ mostColumns) where
+module _ (t : Table) (n at : ℕ) (xs : List ℕ) (q : t ≡ filledTo n at xs) (h : t .columns .count ≤ n)
+    (k : n ≤ mostColumns) where
   pub tags-hold : t .columns .count ≤ length (t .columns .tags)
   unfolding filledTo columnsIn
   tags-hold =

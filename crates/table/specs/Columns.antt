@@ -40,7 +40,12 @@ columnsIn cs = record { count = length cs; tags = padded (tagsOf cs); flags = pa
 
 abbrev pub noColumns : Columns
 noColumns =
-    record { count = 0; tags = replicate mostColumns 0; flags = replicate mostColumns 0; forms = replicate mostColumns 0 }
+    record {
+      count = 0;
+      tags = replicate mostColumns 0;
+      flags = replicate mostColumns 0;
+      forms = replicate mostColumns 0;
+    }
 
 -- the columns where nothing was refused
 abbrev pub kept : Verdict → List Column → Columns

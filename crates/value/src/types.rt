@@ -1,4 +1,5 @@
-// A tag's low 16 bits are its type (2.9.2). The form of its values is a number: that of a kind, or LIST more for a list of the kind.
+// A tag's low 16 bits are its type (2.9.2). The form of its values is a number: that of a kind, or LIST more for a list
+// of the kind.
 ghost use mathlib.Core.Path.{_≡_};
 ghost use Prim.Native.Nat.{_%_};
 ghost use Rattle.value.specs.Types.{numberOf};
