@@ -1,5 +1,7 @@
--- The judgement's parts, in the published order: the header, the tables, the header record, the address records up to the
--- book's end, the serial. A reader may stop behind the tables, or behind the header record; the judgement is those parts,
+-- The judgement's parts, in the published order: the header, the tables, the header record, the address records up to
+-- the
+-- book's end, the serial. A reader may stop behind the tables, or behind the header record; the judgement is those
+-- parts,
 -- then what follows (`judge-tables`, `judge-front`).
 use Prim.Native.Nat.{ℕ, _+_}
 use mathlib.Core.Path.{_≡_, refl}
@@ -21,8 +23,8 @@ use Rattle.book.specs.Book.{countIn, headerAt, judge}
 abbrev pub firstPlace : List ℕ → ℕ
 firstPlace xs = recordsPlace (drop 12 xs) + wordOf 4 (recordsIn (drop 12 xs))
 
-abbrev pub rowsPart : List ℕ → List ℕ
-rowsPart xs = drop (wordOf 4 (recordsIn (drop 12 xs))) (recordsIn (drop 12 xs))
+unfoldable pub firstIn : List ℕ → List ℕ
+firstIn xs = drop (wordOf 4 (recordsIn (drop 12 xs))) (recordsIn (drop 12 xs))
 
 -- ---- the parts
 
@@ -31,7 +33,7 @@ abbrev pub headAt : List ℕ → Verdict
 headAt xs = dueAt (headSlots (headsIn (drop 12 xs))) (recordsPlace (drop 12 xs)) (recordsIn (drop 12 xs))
 
 abbrev pub recordsAt : List ℕ → Verdict
-recordsAt xs = recordsFrom (countIn xs) (rowSlots (colsIn (drop 12 xs))) (firstPlace xs) (rowsPart xs)
+recordsAt xs = recordsFrom (countIn xs) (rowSlots (colsIn (drop 12 xs))) (firstPlace xs) (firstIn xs)
 
 abbrev pub serialAt : List ℕ → Verdict
 serialAt xs = need (eqb (wordOf 4 (drop 4 xs)) (serialOf (drop 12 xs))) wrongSerial 4
@@ -51,7 +53,7 @@ behindFront xs = recordsAt xs then serialAt xs
 
 pub judge-parts : (xs : List ℕ)
     → judge xs ≡ (headerAt xs then tablesAt (drop 12 xs) then headAt xs then recordsAt xs then serialAt xs)
-unfolding judge bodyAt allAt
+unfolding judge bodyAt allAt firstIn
 judge-parts xs = go (headerAt xs) (tablesAt (drop 12 xs)) (headAt xs) (recordsAt xs) (serialAt xs)
   where
     go : (a b c d e : Verdict) → (a then ((b then (c then d)) then e)) ≡ (a then (b then (c then (d then e))))

@@ -19,7 +19,7 @@ use Rattle.table.specs.Columns.{bitsOf, formsOf, columnsIn, bits-long, forms-lo
 use Rattle.entry.specs.Slots.{slotsFrom}
 use Rattle.book.specs.Rows.{dueAt}
 use Rattle.book.specs.Book.{headSlots, headsIn, colsIn, recordsIn, recordsPlace, tablesAt, headerAt, judge}
-use Rattle.book.specs.Front.{firstPlace, rowsPart, headAt, throughTables, frontAt, behindFront, judge-front}
+use Rattle.book.specs.Front.{firstPlace, firstIn, headAt, throughTables, frontAt, behindFront, judge-front}
 use Rattle.book.specs.Judged.{refusedWith, answeredBy, judgedOf, FitsArrays, noTables, tablesBy, tablesIn}
 use Rattle.book.specs.Judged.{frontIn}
 use Rattle.book.specs.Judged.{behindIn, restIn}
@@ -44,8 +44,9 @@ pub first-whole : (b : List ℕ) → judge b ≡ clear → firstPlace b ≤ leng
 first-whole b e = front-whole b (apart (frontAt b) _ (sym (judge-front b) ∙ e) .0)
 
 -- the address records stand behind it
-pub rows-place : (b : List ℕ) → drop (firstPlace b) b ≡ rowsPart b
-rows-place b =
+pub first-place : (b : List ℕ) → drop (firstPlace b) b ≡ firstIn b
+unfolding firstIn
+first-place b =
     let ys : List ℕ = drop 12 b in
     sym (ap (drop (wordOf 4 (recordsIn ys))) (sym (records-place b))
     ∙ drop-drop (wordOf 4 (recordsIn ys)) (recordsPlace ys) b)
@@ -107,7 +108,7 @@ rest-by : (b : List ℕ) (first : ℕ) (cs : List Column) → first ≡ firstPla
 unfolding behindIn columnsIn
 rest-by b first cs e q =
     rw (take-at (formsOf cs) _ (length cs) (forms-long cs), take-at (bitsOf cs) _ (length cs) (bits-long cs))
-    (rw (slots-row cs, e, rows-place b, q))
+    (rw (slots-row cs, e, first-place b, q))
 
 -- ---- judge, from the front that was read
 

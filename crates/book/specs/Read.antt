@@ -1,4 +1,5 @@
--- The book that stands in octets, whatever they are. What a sound book is written as reads back as that book, and octets that are judged good are
+-- The book that stands in octets, whatever they are. What a sound book is written as reads back as that book, and
+-- octets that are judged good are
 -- those of the book that is read from them.
 use Prim.Native.Nat.{ℕ, zero, suc, _^_, _<_}
 use native.Mathlib.Omega.{arith}

@@ -37,15 +37,17 @@ use Rattle.lookup.specs.Places.{walkBehind, walk-behind, placeIn}
 use Rattle.lookup.specs.Cases.{walk-place}
 use Rattle.lookup.specs.Look.{columnIn}
 use Rattle.lookup.specs.Laws.{column-below}
-use Rattle.lookup.specs.Values.{entryOctets}
+use Rattle.entry.specs.Values.{entryOctets}
 use Rattle.lookup.specs.declared.Which.{Which}
 use Rattle.lookup.specs.declared.Which.the-variants.{Header, Number}
-use Rattle.editing.specs.Put.{put, resealed, mark, spliced, spotIn, setAt, slotsFor, startFor, setIn}
+use Rattle.editing.specs.Put.{put, resealed, mark, spliced, spotIn, setAt, slotsFor, setIn}
+use Rattle.lookup.specs.Named.{startFor, hasRecord}
 use Rattle.editing.specs.InPlace.{roomIn, room-keeps, offered, put-length, word-taken}
 use Rattle.editing.specs.Fits.{entryBehind, entry-fit}
 use Rattle.editing.specs.Stands.{Stands, header-stands, number-stands}
 use Rattle.editing.specs.declared.Cell.{Cell}
-use Rattle.correcting.specs.Correct.{bookAt, roomFor, fits, losing, columnFor, slotFor, hasRecord, entryAt, setAt as setVerdict, setBook, setAnswer, setOctets}
+use Rattle.correcting.specs.Correct.{bookAt, roomFor, fits, losing, columnFor, slotFor, entryAt}
+use Rattle.correcting.specs.Correct.{setAt as setVerdict, setBook, setAnswer, setOctets}
 use Rattle.correcting.specs.Find.{cellAt, cell-free, Lies, cell-lies}
 use Rattle.correcting.specs.declared.Plan.{Plan}
 use Rattle.correcting.specs.declared.Corrected.the-variants as corrected

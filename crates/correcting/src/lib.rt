@@ -14,7 +14,7 @@ ghost use mathlib.Core.Option.{none, some};
 ghost use Prim.Native.Nat.{_+_, _^_, _≤_, _<_};
 ghost use lib.ListN.{length, take};
 ghost use Rattle.entry.specs.Slots.{slot, slotsFrom};
-ghost use Rattle.lookup.specs.Values.{entryOctets};
+ghost use Rattle.entry.specs.Values.{entryOctets};
 ghost use Rattle.editing.specs.Put.{spotFrom};
 ghost use Rattle.editing.specs.InPlace.{offered};
 ghost use Rattle.editing.specs.Stands.{Stands};
