@@ -1,4 +1,5 @@
--- The rows of the book that stands in octets, by the places of its records; and in an accepted book the cells of a record are the values of its row.
+-- The rows of the book that stands in octets, by the places of its records; and in an accepted book the cells of a
+-- record are the values of its row.
 use Prim.Native.Nat.{ℕ, zero, suc, _+_, _≤_, _<_}
 use native.Mathlib.Omega.{arith}
 use mathlib.Core.Path.{_≡_, sym, ap, _∙_}
