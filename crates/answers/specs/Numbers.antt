@@ -1,5 +1,5 @@
 -- The refusal numbers of document 01 and the house limits, each named once for all definitions.
-use Prim.Native.Nat.{ℕ}
+use Prim.Native.Nat.{ℕ, _+_}
 
 abbrev pub tooLong : ℕ
 tooLong = 1
@@ -65,6 +65,6 @@ mostColumns = 128
 abbrev pub mostRecords : ℕ
 mostRecords = 65535
 
--- what the listing program reads
-abbrev pub mostListed : ℕ
-mostListed = 65536
+-- the records of a writing, the header record first
+abbrev pub mostOpened : ℕ
+mostOpened = mostRecords + 1

@@ -61,7 +61,8 @@ pub const MOST_COLUMNS: usize = 128;
 
 pub const MOST_RECORDS: usize = 65535;
 
-pub const MOST_LISTED: usize = 65536;
+// The records of a writing, the header record first.
+pub const MOST_OPENED: usize = MOST_RECORDS + 1;
 
 pub fn refuse(number: u32, place: usize) -> Verdict
     ensures { λ r. ⌜ r ≡ refused number place ⌝ }

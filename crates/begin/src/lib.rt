@@ -1,5 +1,6 @@
 // Beginning a book (document 01, "Writing a book"; decision 12): both tables are judged as they are handed over, then the header with serial and
 // count 0 and the metadata are written. A begin that is refused leaves every octet and the writing in progress.
+use answers::MOST_COLUMNS;
 use answers::Verdict;
 use answers::refuse;
 use octets::put_word;
@@ -9,9 +10,11 @@ use writing::Writing;
 ghost use mathlib.Core.Path.{_≡_};
 ghost use Prim.Native.Nat.{_+_, _*_, _≤_};
 ghost use lib.ListN.{length};
+ghost use Rattle.answers.specs.Numbers.{mostColumns};
 ghost use Rattle.octets.specs.Splice.{stored};
 ghost use Rattle.table.specs.Table.{columnsOctets, tableOctets};
-ghost use Rattle.begin.specs.Begin.{knownTo, tagsAt, columnsFrom, rowOctets, headOctets, beginAt, beginNext, noWriting, beginOutcome, beginOctets};
+ghost use Rattle.begin.specs.Begin.{knownTo, tagsAt, columnsFrom, rowOctets, headOctets, beginAt, beginNext};
+ghost use Rattle.begin.specs.Begin.{noWriting, beginOutcome, beginOctets};
 
 // The rows before the first whose type is not among the ten.
 fn known(tags: &[u32]) -> usize
@@ -19,7 +22,7 @@ fn known(tags: &[u32]) -> usize
 {
     let mut i = 0;
     while i < tags.len() {
-        if value::form_of(tags[i]) == 255 {
+        if value::form_of(tags[i]) == value::UNKNOWN {
             return i;
         }
         i += 1;
@@ -29,11 +32,11 @@ fn known(tags: &[u32]) -> usize
 
 // The tags of a table whose rows count from `base`.
 fn judge_tags(tags: &[u32], base: usize) -> Verdict
-    requires { ⌜ base ≤ 128 ⌝ }
+    requires { ⌜ base ≤ mostColumns ⌝ }
     ensures { λ r. ⌜ r ≡ tagsAt base (now (tags .entry)) ⌝ }
 {
-    if 128 < tags.len() {
-        return refuse(answers::MANY_COLUMNS, base + 128);
+    if MOST_COLUMNS < tags.len() {
+        return refuse(answers::MANY_COLUMNS, base + MOST_COLUMNS);
     }
     let k = known(tags);
     let found = table::first_repeat(&tags[0..k]);
@@ -46,7 +49,8 @@ fn judge_tags(tags: &[u32], base: usize) -> Verdict
     Verdict::Clear
 }
 
-fn judge_begin(htags: &[u32], hflags: &[u32], tags: &[u32], flags: &[u32], n: usize) -> Verdict
+// Both tables, and room for what begin writes in n octets.
+pub fn judge_begin(htags: &[u32], hflags: &[u32], tags: &[u32], flags: &[u32], n: usize) -> Verdict
     ensures { λ r. ⌜ r ≡ beginAt (now (htags .entry)) (now (hflags .entry)) (now (tags .entry)) (now (flags .entry)) n ⌝ }
 {
     if htags.len() != hflags.len() {
@@ -59,7 +63,7 @@ fn judge_begin(htags: &[u32], hflags: &[u32], tags: &[u32], flags: &[u32], n: us
     let Verdict::Clear = v else {
         return v;
     };
-    let w = judge_tags(tags, 128);
+    let w = judge_tags(tags, MOST_COLUMNS);
     let Verdict::Clear = w else {
         return w;
     };
@@ -90,7 +94,8 @@ fn put_row(buf: &mut [u8], at: usize, tag: u32, flags: u32)
 }
 
 fn put_columns(buf: &mut [u8], at: usize, tags: &[u32], flags: &[u32])
-    requires { ⌜ (length (now tags) ≡ length (now flags)) × (length (now tags) ≤ 128) × (at + 8 * length (now tags) ≤ length (now buf)) ⌝ }
+    requires { ⌜ (length (now tags) ≡ length (now flags)) × (length (now tags) ≤ mostColumns)
+        × (at + 8 * length (now tags) ≤ length (now buf)) ⌝ }
     ensures { λ _. ⌜ now (buf .exit) ≡ stored (now (buf .entry)) at (columnsOctets (columnsFrom (now (tags .entry)) (now (flags .entry)))) ⌝ }
 {
     let mut i = 0;
@@ -101,7 +106,8 @@ fn put_columns(buf: &mut [u8], at: usize, tags: &[u32], flags: &[u32])
 }
 
 fn put_table(buf: &mut [u8], at: usize, tags: &[u32], flags: &[u32])
-    requires { ⌜ (length (now tags) ≡ length (now flags)) × (length (now tags) ≤ 128) × (at + 4 + 8 * length (now tags) ≤ length (now buf)) ⌝ }
+    requires { ⌜ (length (now tags) ≡ length (now flags)) × (length (now tags) ≤ mostColumns)
+        × (at + 4 + 8 * length (now tags) ≤ length (now buf)) ⌝ }
     ensures { λ _. ⌜ now (buf .exit) ≡ stored (now (buf .entry)) at (tableOctets (columnsFrom (now (tags .entry)) (now (flags .entry)))) ⌝ }
 {
     put_word(buf, at, 4, tags.len() as u64);
@@ -121,12 +127,12 @@ pub fn no_writing() -> Writing
         next: 0,
         left: 0,
         form: 0,
-        stage: 1,
+        stage: writing::FINISHED,
     }
 }
 
 fn begun(header: usize, address: usize) -> Writing
-    requires { ⌜ (header ≤ 128) × (address ≤ 128) ⌝ }
+    requires { ⌜ (header ≤ mostColumns) × (address ≤ mostColumns) ⌝ }
     ensures { λ r. ⌜ r ≡ beginNext header address ⌝ }
 {
     Writing {
@@ -138,7 +144,7 @@ fn begun(header: usize, address: usize) -> Writing
         next: 0,
         left: 0,
         form: 0,
-        stage: 0,
+        stage: writing::IN_PROGRESS,
     }
 }
 

@@ -1,9 +1,13 @@
 pub mod Rows
 pub mod Book
+pub mod Front
 pub mod Whole
+pub mod Read
+pub mod Sealed
 pub mod Judged
 pub mod Exact
 pub mod Unused
 pub mod RecordCases
 pub mod JudgeCases
+pub mod FrontCases
 pub mod Good

@@ -18,8 +18,8 @@ use Rattle.lookup.specs.Look.{stretchOf}
 use Rattle.lookup.specs.Tagged.{columnsFor, rowFor}
 use Rattle.lookup.specs.declared.Which.{Which}
 use Rattle.lookup.specs.declared.Which.the-variants.{Header, Number}
-use Rattle.editing.specs.Put.{startFor}
-use Rattle.editing.specs.Done.{There}
+use Rattle.lookup.specs.Named.{startFor}
+use Rattle.lookup.specs.Named.{There}
 use Rattle.corrected.specs.Handed.{handedOf, octetsOf, stretch-handed, rowHanded, handed-is}
 
 -- ---- the octets of a record: those from its place on, as many as its size field says

@@ -20,8 +20,9 @@ use Rattle.lookup.specs.Laws.{column-in, column-tag}
 use Rattle.lookup.specs.Tagged.{columnsFor, rowFor}
 use Rattle.lookup.specs.declared.Which.{Which}
 use Rattle.editing.specs.Elsewhere.{set-columns, set-heads, set-cols, set-many, set-there, row-named, row-other}
-use Rattle.editing.specs.Done.{There, slotsUnder, setTo}
-use Rattle.correcting.specs.Correct.{hasRecord, setOctets}
+use Rattle.editing.specs.Done.{slotsUnder, setTo}
+use Rattle.lookup.specs.Named.{There, hasRecord}
+use Rattle.correcting.specs.Correct.{setOctets}
 use Rattle.corrected.specs.Named.{count-of, named-in, row-sound, slots-reach}
 use Rattle.corrected.specs.Set.{SetDone}
 use Rattle.corrected.specs.Handed.{handedOf, octetsOf, stretch-handed, entryOn, handedIn, rowHanded, handed-is}

@@ -27,8 +27,9 @@ use Rattle.lookup.specs.declared.Which.{Which}
 use Rattle.lookup.specs.declared.Which.the-variants.{Header, Number}
 use Rattle.editing.specs.Put.{slotsFor}
 use Rattle.editing.specs.Offered.{offered-value}
-use Rattle.editing.specs.Done.{There, slotsUnder, slots-in}
-use Rattle.correcting.specs.Correct.{fits, losing, columnFor, slotFor, hasRecord}
+use Rattle.editing.specs.Done.{slotsUnder, slots-in}
+use Rattle.lookup.specs.Named.{There, hasRecord}
+use Rattle.correcting.specs.Correct.{fits, losing, columnFor, slotFor}
 
 -- ---- the book's own
 

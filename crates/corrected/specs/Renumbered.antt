@@ -14,7 +14,7 @@ use Rattle.lookup.specs.Tagged.{columnsFor, rowFor}
 use Rattle.lookup.specs.declared.Which.{Which}
 use Rattle.lookup.specs.declared.Which.the-variants.{Header, Number}
 use Rattle.editing.specs.Edit.{edit}
-use Rattle.editing.specs.Done.{There}
+use Rattle.lookup.specs.Named.{There}
 use Rattle.editing.specs.Elsewhere.{edit-heads, edit-cols, edit-head, edit-many, row-before, there-before, row-new, there-new, row-behind, there-behind}
 use Rattle.correcting.specs.Correct.{insertOctets, deleteOctets}
 use Rattle.corrected.specs.Named.{count-of}

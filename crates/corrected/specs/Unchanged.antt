@@ -27,7 +27,8 @@ use Rattle.lookup.specs.declared.Which.the-variants.{Header, Number}
 use Rattle.lookup.specs.declared.Looked.the-variants as looked
 use Rattle.editing.specs.Put.{bufferOf}
 use Rattle.editing.specs.Entry.{entryAt}
-use Rattle.editing.specs.Done.{There, slotsUnder, setTo, set-same}
+use Rattle.editing.specs.Done.{slotsUnder, setTo, set-same}
+use Rattle.lookup.specs.Named.{There}
 use Rattle.correcting.specs.Correct.{answered, setAt, setBook, setAnswer, setOctets, insertAt, insertBook, insertAnswer, insertOctets, deleteAt, deleteBook, deleteAnswer, deleteOctets}
 use Rattle.correcting.specs.declared.Corrected.the-variants as corrected
 use Rattle.corrected.specs.Buffer.{buffer-same}

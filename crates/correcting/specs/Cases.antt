@@ -10,7 +10,7 @@ use lib.ListN.{length, getD, take, drop, replicate, length-append, length-drop}
 use lib.Seq.{getD-drop, drop-drop, length-take-le}
 use borrow.Author.Tests.{le-leb, lt-leb, lt-ltb, le-ltb, ltb-true, eq-eqb, ne-eqb}
 use Rattle.octets.specs.Word.{leOf, wordOf, length-leOf}
-use Rattle.answers.specs.Numbers.{outOfTurn, breaksRule, breaksForm, mostOctets}
+use Rattle.answers.specs.Numbers.{outOfTurn, breaksRule, breaksForm, mostOctets, mostRecords}
 use Rattle.answers.specs.declared.Refusal.{Refusal}
 use Rattle.answers.specs.declared.Verdict.{Verdict}
 use Rattle.answers.specs.declared.Verdict.the-variants.{Clear as clear, Refused}
@@ -30,22 +30,25 @@ use Rattle.entry.specs.Slots.{keyBit, slot, slotsFrom, slots-many, slots-next}
 use Rattle.book.specs.Book.{slots-long, headsIn, colsIn, recordsPlace, countIn, judge, sealed-length}
 use Rattle.book.specs.Judged.{judgedOf}
 use Rattle.book.specs.JudgeCases.{slots-head, slots-row}
-use Rattle.book.specs.Good.{GoodIs, good-is, refused-by, good-keeps, tags-in, forms-in, bits-in, reach-tags, reach-forms}
+use Rattle.book.specs.Good.{GoodIs, good-is, refused-by, good-keeps, tags-in, forms-in, bits-in, reach-tags}
+use Rattle.book.specs.Good.{reach-forms, reach-bits}
 use Rattle.book.specs.declared.Judgement.{Judgement}
 use Rattle.book.specs.declared.Judged.the-variants as judged
 use Rattle.lookup.specs.Places.{walkBehind, walk-behind, placeIn}
 use Rattle.lookup.specs.Cases.{walk-place}
 use Rattle.lookup.specs.Look.{columnIn}
 use Rattle.lookup.specs.Laws.{column-below}
-use Rattle.lookup.specs.Values.{entryOctets}
+use Rattle.entry.specs.Values.{entryOctets}
 use Rattle.lookup.specs.declared.Which.{Which}
 use Rattle.lookup.specs.declared.Which.the-variants.{Header, Number}
-use Rattle.editing.specs.Put.{put, resealed, mark, spliced, spotIn, setAt, slotsFor, startFor, setIn}
+use Rattle.editing.specs.Put.{put, resealed, mark, spliced, spotIn, setAt, slotsFor, setIn}
+use Rattle.lookup.specs.Named.{startFor, hasRecord}
 use Rattle.editing.specs.InPlace.{roomIn, room-keeps, offered, put-length, word-taken}
 use Rattle.editing.specs.Fits.{entryBehind, entry-fit}
 use Rattle.editing.specs.Stands.{Stands, header-stands, number-stands}
 use Rattle.editing.specs.declared.Cell.{Cell}
-use Rattle.correcting.specs.Correct.{bookAt, roomFor, fits, losing, columnFor, slotFor, hasRecord, entryAt, setAt as setVerdict, setBook, setAnswer, setOctets}
+use Rattle.correcting.specs.Correct.{bookAt, roomFor, fits, losing, columnFor, slotFor, entryAt}
+use Rattle.correcting.specs.Correct.{setAt as setVerdict, setBook, setAnswer, setOctets}
 use Rattle.correcting.specs.Find.{cellAt, cell-free, Lies, cell-lies}
 use Rattle.correcting.specs.declared.Plan.{Plan}
 use Rattle.correcting.specs.declared.Corrected.the-variants as corrected
@@ -272,7 +275,7 @@ module _ (b v : List ℕ) (room tag : ℕ) (t : Bool) (j : Judgement) (je : j �
         let n : countIn b ≡ c = sym (good .count) in
         rw (w, good .clears, n, le-ltb k c g) (rw y at z)
 
-    pub number-walks : (f < 2 ^ 32) × (c < 65536)
+    pub number-walks : (f < 2 ^ 32) × (c ≤ mostRecords)
     number-walks =
         let k = good-keeps b (good .clears) in
         let g = good .first in
@@ -289,10 +292,6 @@ module _ (b v : List ℕ) (room tag : ℕ) (t : Bool) (j : Judgement) (je : j �
         let w₂ = number-walks in
         let a : at ≡ placeIn b k = y ∙ walk-behind k f b (w₂ .0) (omega (arith, w₂ .1)) ∙ walk-place b k f (good .first) in
         rw (w, good .clears, n, lt-ltb k c g) (rw (good .cols, a, tags-in cs, forms-in cs, bits-in cs, slots-row cs) at z)
-
-    reach-flags : (cs : List Column) → columnsIn cs .count ≤ length (columnsIn cs .flags)
-    unfolding columnsIn
-    reach-flags cs = let l = bits-long cs in let m = length-append (bitsOf cs) (replicate (128 - length (bitsOf cs)) 0) in omega arith
 
     columns-many : (cs : List Column) → columnsIn cs .count ≡ length cs
     unfolding columnsIn
@@ -311,8 +310,13 @@ module _ (b v : List ℕ) (room tag : ℕ) (t : Bool) (j : Judgement) (je : j �
         let w₂ = number-walks in
         let a : at ≡ placeIn b k = y ∙ walk-behind k f b (w₂ .0) (omega (arith, w₂ .1)) ∙ walk-place b k f (good .first) in
         let n = good .count in
-        let s : Stands (length cs) (placeIn b k) b = rw (slots-long true cs) at (number-stands b (good .clears) k (omega arith)) in
-        (rw (good .cols) (reach-tags cs), rw (good .cols) (reach-forms cs), rw (good .cols) (reach-flags cs), rw (good .cols, columns-many cs, a) s, good-keeps b (good .clears) .0)
+        let s : Stands (length cs) (placeIn b k) b = rw (slots-long true cs) at (number-stands b (good .clears) k (omega arith)) in (
+          rw (good .cols) (reach-tags cs),
+          rw (good .cols) (reach-forms cs),
+          rw (good .cols) (reach-bits cs),
+          rw (good .cols, columns-many cs, a) s,
+          good-keeps b (good .clears) .0,
+        )
 
 -- ---- the verdict of a plan is that of the call
 

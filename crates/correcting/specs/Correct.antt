@@ -18,6 +18,7 @@ use Rattle.table.specs.declared.Found.{Found}
 use Rattle.table.specs.Found.{isFound, columnOf}
 use Rattle.entry.specs.Record.{Slot, isClear, recordAt, keysAt, freed, presentIn, noSlot}
 use Rattle.book.specs.Book.{rowSlots, headsIn, colsIn, countIn, judge}
+use Rattle.lookup.specs.Named.{hasRecord}
 use Rattle.lookup.specs.Look.{columnIn}
 use Rattle.lookup.specs.declared.Which.{Which}
 use Rattle.lookup.specs.declared.Which.the-variants.{Header, Number}
@@ -60,10 +61,6 @@ columnFor xs (Number k) t = columnIn t (tagsOf (colsIn (drop 12 xs)))
 
 abbrev pub slotFor : List ℕ → Which → ℕ → Slot
 slotFor xs which c = getD (slotsFor xs which) c noSlot
-
-abbrev pub hasRecord : List ℕ → Which → Bool
-hasRecord xs Header = true
-hasRecord xs (Number k) = ltb k (countIn xs)
 
 -- xs is the book, c the column
 unfoldable pub entryAt : List ℕ → List ℕ → Which → ℕ → Option (List ℕ) → Verdict

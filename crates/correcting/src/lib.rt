@@ -13,8 +13,9 @@ ghost use mathlib.Core.List.{[]};
 ghost use mathlib.Core.Option.{none, some};
 ghost use Prim.Native.Nat.{_+_, _^_, _≤_, _<_};
 ghost use lib.ListN.{length, take};
+ghost use Rattle.answers.specs.Numbers.{mostOctets};
 ghost use Rattle.entry.specs.Slots.{slot, slotsFrom};
-ghost use Rattle.lookup.specs.Values.{entryOctets};
+ghost use Rattle.entry.specs.Values.{entryOctets};
 ghost use Rattle.editing.specs.Put.{spotFrom};
 ghost use Rattle.editing.specs.InPlace.{offered};
 ghost use Rattle.editing.specs.Stands.{Stands};
@@ -136,7 +137,8 @@ fn plan_column(
     value: &[u8],
     count: usize,
 ) -> Plan
-    requires { ⌜ (c < length (now forms)) × Stands (length (now forms)) at (now book) × (now value ≡ entryOctets (offered there (now value))) × (length (now book) ≤ 16777216) ⌝ }
+    requires { ⌜ (c < length (now forms)) × Stands (length (now forms)) at (now book)
+        × (now value ≡ entryOctets (offered there (now value))) × (length (now book) ≤ mostOctets) ⌝ }
     ensures { λ r. ⌜ r ≡ planColumn (slotsFrom (now (forms .entry)) (now (flags .entry))) c at (offered there (now (value .entry))) (now (book .entry)) room count ⌝ }
 {
     let v = judge_entry(forms[c], entry::flags_at(flags, c), there, value);
@@ -170,7 +172,9 @@ fn plan_in(
     value: &[u8],
     count: usize,
 ) -> Plan
-    requires { ⌜ (columns .count ≤ length (columns .tags)) × (columns .count ≤ length (columns .forms)) × (keys ≤ length (columns .flags)) × Stands (columns .count) at (now book) × (length (now book) ≤ 16777216) × (now value ≡ entryOctets (offered there (now value))) ⌝ }
+    requires { ⌜ (columns .count ≤ length (columns .tags)) × (columns .count ≤ length (columns .forms))
+        × (keys ≤ length (columns .flags)) × Stands (columns .count) at (now book) × (length (now book) ≤ mostOctets)
+        × (now value ≡ entryOctets (offered there (now value))) ⌝ }
     ensures { λ r. ⌜ r ≡ planIn (take (columns .count) (columns .tags)) (slotsFrom (take (columns .count) (columns .forms)) (take keys (columns .flags))) at tag (offered there (now (value .entry))) (now (book .entry)) room count ⌝ }
 {
     let n = columns.count;

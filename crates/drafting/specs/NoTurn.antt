@@ -10,7 +10,7 @@ use lib.ListN.{length}
 use Rattle.answers.specs.Numbers.{outOfTurn}
 use Rattle.answers.specs.declared.Verdict.the-variants.{Clear as clear}
 use Rattle.answers.specs.Verdict.{refused}
-use Rattle.writing.specs.State.{saneOf}
+use Rattle.writing.specs.State.{saneOf, inProgress}
 use Rattle.writing.specs.Column.{columnFor}
 use Rattle.writing.specs.Untaken.{ended-untaken, short-untaken, untaken-idle, untaken-within}
 use Rattle.writing.specs.declared.Writing.{Writing}
@@ -35,7 +35,7 @@ module _ (st : Writing) (d : List ℕ) (e : saneOf st (length d) ≡ false) wher
   no-call (Add v) = rw (untaken-within st (length d) e)
 
 -- a state that isn't in progress: `no_writing`, and every state after a finish
-pub ended-no-turn : (st : Writing) → (st .stage ≡ 0 → ⊥) → (c : Call) (d : List ℕ) → NoTurn c st d
+pub ended-no-turn : (st : Writing) → (st .stage ≡ inProgress → ⊥) → (c : Call) (d : List ℕ) → NoTurn c st d
 ended-no-turn st h c d = let e = ended-untaken st (length d) h in (no-call st d e c, no-finish st d e)
 
 -- an accepted finish ends the writing: after it any call, in any buffer, is out of turn

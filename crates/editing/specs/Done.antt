@@ -14,20 +14,16 @@ use Rattle.entry.specs.Record.{Slot, SoundEntry, row-long}
 use Rattle.book.specs.Book.{Book, Sound, slots-long, headSlots, rowSlots, bookOctets}
 use Rattle.book.specs.Whole.{heads-in, cols-in, body-in, count-in, same-book}
 use Rattle.lookup.specs.Places.{place-in, place-first, rowAt, sound-at}
-use Rattle.lookup.specs.Values.{entryOctets}
+use Rattle.entry.specs.Values.{entryOctets}
 use Rattle.lookup.specs.Tagged.{columnsFor, rowFor}
 use Rattle.lookup.specs.declared.Which.{Which}
 use Rattle.lookup.specs.declared.Which.the-variants.{Header, Number}
+use Rattle.lookup.specs.Named.{There}
 use Rattle.editing.specs.Put.{slotsFor, setIn}
 use Rattle.editing.specs.Edit.{edit, edit-length, place-next, one-row, set-row}
 use Rattle.editing.specs.Entry.{entryAt}
 use Rattle.editing.specs.Set.{headed, row-lengthened, headed-length}
 use Rattle.editing.specs.Spot.{set-row-is, set-head-is, set-row-sound, set-head-sound}
-
--- the book has the record
-abbrev pub There : Book → Which → Type 0
-There b Header = Unit {0}
-There b (Number k) = k < length (b .rows)
 
 -- what a record may hold
 abbrev pub slotsUnder : Book → Which → List Slot

@@ -14,7 +14,8 @@ use Rattle.lookup.specs.declared.Which.{Which}
 use Rattle.lookup.specs.declared.Which.the-variants.{Header, Number}
 use Rattle.editing.specs.Edit.{edit, edited-length, set-row}
 use Rattle.editing.specs.Set.{headed}
-use Rattle.editing.specs.Done.{There, setTo}
+use Rattle.editing.specs.Done.{setTo}
+use Rattle.lookup.specs.Named.{There}
 
 -- ---- records replaced, put in or taken out
 

@@ -15,7 +15,12 @@ use Rattle.presence.specs.Presence.{room, bitAt, isSet, spareClear, set-same, s
 use Rattle.presence.specs.Clear.{spare-from, clear-same, clear-other, length-clearBit, octets-clearBit}
 use Rattle.entry.specs.Present.{Row, there, presenceOf, Bits, length-setBit, octets-setBit, presence-length, presence-octets, presence-bits, presence-spare, presence-one}
 use Rattle.entry.specs.Record.{Slot, valuesOf, rowOctets, SoundEntry, SoundRow}
-use Rattle.lookup.specs.Values.{values-append, entryOctets, entry-first, valueOffset, values-before, values-from}
+use Rattle.entry.specs.Values.{values-from}
+use Rattle.entry.specs.Values.{values-before}
+use Rattle.entry.specs.Values.{valueOffset}
+use Rattle.entry.specs.Values.{entry-first}
+use Rattle.entry.specs.Values.{entryOctets}
+use Rattle.entry.specs.Values.{values-append}
 use Rattle.editing.specs.Put.{put, mark}
 
 -- ---- the presence octets

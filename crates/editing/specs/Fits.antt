@@ -13,7 +13,7 @@ use Rattle.octets.specs.Octets.{no-octets}
 use Rattle.octets.specs.Word.{wordOf}
 use Rattle.presence.specs.Presence.{room}
 use Rattle.entry.specs.Record.{presentIn}
-use Rattle.lookup.specs.Values.{entryOctets}
+use Rattle.entry.specs.Values.{entryOctets}
 use Rattle.editing.specs.Put.{put, bufferOf, resealed, spliced}
 use Rattle.editing.specs.InPlace.{offered}
 use Rattle.editing.specs.declared.Cell.{Cell}

@@ -21,7 +21,7 @@ use Rattle.serial.specs.Serial.{serialOf}
 use Rattle.presence.specs.Presence.{room, setBit, clearBit}
 use Rattle.book.specs.Book.{sealed, sealed-length}
 use Rattle.entry.specs.Record.{presentIn}
-use Rattle.lookup.specs.Values.{entryOctets}
+use Rattle.entry.specs.Values.{entryOctets}
 use Rattle.editing.specs.Put.{put, bufferOf, resealed, mark, spliced}
 
 -- ---- a book of n octets: the limit, then the buffer

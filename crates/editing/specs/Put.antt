@@ -12,8 +12,9 @@ use Rattle.presence.specs.Presence.{room, isSet, setBit, clearBit}
 use Rattle.value.specs.Value.{valueOf}
 use Rattle.entry.specs.Record.{Slot, presentIn, valuesIn}
 use Rattle.book.specs.Book.{sealed, headSlots, rowSlots, headsIn, colsIn, recordsPlace, countIn}
+use Rattle.lookup.specs.Named.{startFor}
 use Rattle.lookup.specs.Places.{placeIn}
-use Rattle.lookup.specs.Values.{entryOctets}
+use Rattle.entry.specs.Values.{entryOctets}
 use Rattle.lookup.specs.declared.Which.{Which}
 use Rattle.lookup.specs.declared.Which.the-variants.{Header, Number}
 
@@ -72,14 +73,10 @@ setAt ss c at e xs =
     spliced at (length ss) c (spotIn ss c at (drop at xs) .start) (spotIn ss c at (drop at xs) .long)
     (wordOf 4 (drop at xs) + length (entryOctets e) - spotIn ss c at (drop at xs) .long) e (presentIn (length ss) (drop at xs)) xs
 
--- the columns of a record, and where it starts
+-- the columns of a record
 abbrev pub slotsFor : List ℕ → Which → List Slot
 slotsFor xs Header = headSlots (headsIn (drop 12 xs))
 slotsFor xs (Number k) = rowSlots (colsIn (drop 12 xs))
-
-abbrev pub startFor : List ℕ → Which → ℕ
-startFor xs Header = recordsPlace (drop 12 xs)
-startFor xs (Number k) = placeIn xs k
 
 -- column c of a record set to a value, or cleared
 unfoldable pub setIn : List ℕ → Which → ℕ → Option (List ℕ) → List ℕ

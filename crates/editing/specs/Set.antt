@@ -15,7 +15,8 @@ use Rattle.entry.specs.Record.{valuesOf, rowOctets, row-length, row-long}
 use Rattle.book.specs.Rows.{rowsOctets}
 use Rattle.book.specs.Book.{Book, Sound, slots-long, headSlots, rowSlots, sealed, tablesOctets, bodyOctets, bookOctets}
 use Rattle.lookup.specs.Places.{frontOctets, placeOf, rowAt, sound-at, record-from, head-from}
-use Rattle.lookup.specs.Values.{entryOctets, valueOffset}
+use Rattle.entry.specs.Values.{valueOffset}
+use Rattle.entry.specs.Values.{entryOctets}
 use Rattle.lookup.specs.Laws.{valuePlace}
 use Rattle.editing.specs.Put.{put, resealed, mark, spliced}
 use Rattle.editing.specs.Edit.{edit, place-next, rows-measured, book-length, book-replaced, sealed-put}

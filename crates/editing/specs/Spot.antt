@@ -18,7 +18,8 @@ use Rattle.book.specs.Rows.{rowsOctets}
 use Rattle.book.specs.Book.{Book, Sound, slots-long, headSlots, rowSlots, bookOctets}
 use Rattle.book.specs.Whole.{records-short}
 use Rattle.lookup.specs.Places.{placeOf, rowAt, sound-at, row-below, record-from, head-from}
-use Rattle.lookup.specs.Values.{entryOctets, valueOffset}
+use Rattle.entry.specs.Values.{valueOffset}
+use Rattle.entry.specs.Values.{entryOctets}
 use Rattle.lookup.specs.Laws.{valuePlace}
 use Rattle.editing.specs.Put.{resealed, Spot, spotFrom, spotIn, spliced, setAt}
 use Rattle.editing.specs.Edit.{edit, edited-length, edit-sound}

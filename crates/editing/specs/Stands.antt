@@ -16,9 +16,12 @@ use Rattle.presence.specs.Presence.{room}
 use Rattle.entry.specs.Record.{Slot, recordAt}
 use Rattle.book.specs.Rows.{dueAt, recordsFrom}
 use Rattle.book.specs.Book.{headSlots, rowSlots, headsIn, colsIn, recordsIn, recordsPlace, countIn, judge}
-use Rattle.book.specs.JudgeCases.{records-place, first-whole}
-use Rattle.lookup.specs.Places.{walkTo, firstIn, placeIn}
+use Rattle.book.specs.JudgeCases.{records-place}
+use Rattle.book.specs.Front.{firstPlace}
+use Rattle.book.specs.FrontCases.{first-place, first-whole}
+use Rattle.lookup.specs.Places.{walkTo, placeIn}
 use Rattle.lookup.specs.Cases.{walk-place}
+use Rattle.lookup.specs.PlaceCases.{walk-more}
 use Rattle.lookup.specs.Back.{records-clear}
 
 -- a record of n columns stands at `at` of b: its size field and presence octets, up to where its size says
@@ -66,23 +69,11 @@ walk-in (suc k) (suc n) ss at b o l e h =
     let i = walk-in k n ss (at + w) b (omega arith) (s .whole) (rw d at (c .1)) (omega arith) in
     rw d (omega (arith, i .0), i .1)
 
-walk-more : (k at : ℕ) (b : List ℕ) → walkTo (suc k) at (drop at b) ≡ walkTo k at (drop at b) + wordOf 4 (drop (walkTo k at (drop at b)) b)
-unfolding walkTo
-walk-more zero at b = refl
-walk-more (suc k) at b =
-    let w : ℕ = wordOf 4 (drop at b) in
-    let d : drop w (drop at b) ≡ drop (at + w) b = drop-drop w at b in
-    rw d (walk-more k (at + w) b)
-
 -- ---- in a book
 
 module _ (b : List ℕ) where
   abbrev first : ℕ
-  first = recordsPlace (drop 12 b) + wordOf 4 (recordsIn (drop 12 b))
-
-  first-is : drop first b ≡ firstIn b
-  unfolding firstIn
-  first-is = sym (drop-drop (wordOf 4 (recordsIn (drop 12 b))) (recordsPlace (drop 12 b)) b) ∙ ap (drop (wordOf 4 (recordsIn (drop 12 b)))) (records-place b)
+  first = firstPlace b
 
   -- the next record stands behind this one
   pub place-next : (k : ℕ) → placeIn b (k + 1) ≡ placeIn b k + wordOf 4 (drop (placeIn b k) b)
@@ -90,7 +81,7 @@ module _ (b : List ℕ) where
 
   module _ (e : judge b ≡ clear) where
     rows-clear : recordsFrom (countIn b) (rowSlots (colsIn (drop 12 b))) first (drop first b) ≡ clear
-    rows-clear = rw first-is (records-clear b e .1)
+    rows-clear = rw (first-place b) (records-clear b e .1)
 
     pub header-stands : Stands (length (headSlots (headsIn (drop 12 b)))) (recordsPlace (drop 12 b)) b
     header-stands = due-stands (headSlots (headsIn (drop 12 b))) (recordsPlace (drop 12 b)) b (omega arith) (rw (records-place b) (records-clear b e .0))

@@ -9,7 +9,7 @@ ghost use lib.ListN.{length, take, drop};
 ghost use Rattle.octets.specs.Word.{wordOf};
 ghost use Rattle.presence.specs.Presence.{room};
 ghost use Rattle.entry.specs.Record.{presentIn};
-ghost use Rattle.lookup.specs.Values.{entryOctets};
+ghost use Rattle.entry.specs.Values.{entryOctets};
 ghost use Rattle.editing.specs.Put.{put, bufferOf, resealed, spliced};
 ghost use Rattle.editing.specs.InPlace.{offered, markedBy, roomIn};
 ghost use Rattle.editing.specs.Fits.{partFits, recordsPut, entryFits, entryBehind};

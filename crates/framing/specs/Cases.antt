@@ -12,17 +12,21 @@ use Rattle.octets.specs.Octets.{rest-of}
 use Rattle.octets.specs.Splice.{stored}
 use Rattle.octets.specs.Word.{leOf, wordOf}
 use Rattle.serial.specs.Serial.{serialOf}
-use Rattle.answers.specs.Numbers.{outOfTurn, breaksRule, mostOctets}
+use Rattle.answers.specs.Numbers.{outOfTurn, breaksRule, mostOctets, mostColumns, mostOpened}
 use Rattle.answers.specs.declared.Verdict.{Verdict}
 use Rattle.answers.specs.declared.Verdict.the-variants.{Clear as clear, Refused}
 use Rattle.answers.specs.Verdict.{refused, _then_, need, apart, unmet, kept}
 use Rattle.answers.specs.declared.Refusal.{Refusal}
 use Rattle.presence.specs.Presence.{room, isSet}
 use Rattle.entry.specs.Slots.{keyBit}
-use Rattle.writing.specs.State.{settled, doneWith, columnsOf, tablesEnd, idleOf, withinOf, roomAt, Sane, idle-in, Within, within-in, Roomy, room-in}
+use Rattle.writing.specs.State.{settled, doneWith, columnsOf, tablesEnd, idleOf, withinOf, roomAt, Sane, idle-in}
+use Rattle.writing.specs.State.{Within, within-in, Roomy, room-in}
 use Rattle.writing.specs.declared.Writing.{Writing}
 use Rattle.writing.specs.declared.Outcome.{Outcome}
-use Rattle.framing.specs.Frame.{openSize, openAt, openNext, openOutcome, openOctets, keysFrom, closeAt, closeNext, closeOutcome, closeOctets, finishAt, finishNext, sealedTo, finishOutcome, finishOctets}
+use Rattle.framing.specs.Frame.{openSize, openAt, openNext, openOutcome, openOctets, keysFrom, closeAt}
+use Rattle.framing.specs.Frame.{closeNext, closeOutcome, closeOctets, finishAt, finishNext, finishOutcome}
+use Rattle.framing.specs.Frame.{finishOctets}
+use Rattle.book.specs.Sealed.{sealedTo, sealedIn, sealed-in}
 
 -- ---- a refused call, of any of them
 
@@ -36,15 +40,20 @@ refused-kept v r d new e = rw e
 
 pub record Opens (st : Writing) (n : ℕ) : Type 0 where
   pub sane : Sane st n
-  pub more : st .opened < 65536
+  pub more : st .opened < mostOpened
   pub roomy : Roomy (st .written) n (openSize st)
 
 pub open-in : (st : Writing) (n : ℕ) → openAt st n ≡ clear → Opens st n
 unfolding openAt
 open-in st n e =
     let c₁ = apart (need (idleOf st n) outOfTurn 0) _ e in
-    let c₂ = apart (need (ltb (st .opened) 65536) breaksRule 0) _ (c₁ .1) in
-    record { sane = idle-in st n (unmet _ outOfTurn 0 (c₁ .0)); more = ltb-true (st .opened) 65536 (unmet _ breaksRule 0 (c₂ .0)); roomy = room-in (st .written) n (openSize st) (c₂ .1) }
+    let c₂ = apart (need (ltb (st .opened) mostOpened) breaksRule 0) _ (c₁ .1) in
+    record {
+      sane = idle-in st n (unmet _ outOfTurn 0 (c₁ .0));
+      more = ltb-true (st .opened) mostOpened (unmet _ breaksRule 0 (c₂ .0));
+      roomy =
+          room-in (st .written) n (openSize st) (c₂ .1);
+    }
 
 module _ (st : Writing) (n : ℕ) (b : Bool) (e : b ≡ idleOf st n) (v : Verdict) where
   pub open-turn : b ≡ false → v ≡ refused outOfTurn 0 → v ≡ openAt st n
@@ -52,21 +61,23 @@ module _ (st : Writing) (n : ℕ) (b : Bool) (e : b ≡ idleOf st n) (v : Verdic
   open-turn z q = rw (← e, z) q
 
   module _ (z : b ≡ true) where
-    pub open-many : 65536 ≤ st .opened → v ≡ refused breaksRule 0 → v ≡ openAt st n
+    pub open-many : mostOpened ≤ st .opened → v ≡ refused breaksRule 0 → v ≡ openAt st n
     unfolding openAt
-    open-many h q = rw (← e, z, le-ltb (st .opened) 65536 h) q
+    open-many h q = rw (← e, z, le-ltb (st .opened) mostOpened h) q
 
-    pub open-room : st .opened < 65536 → (k : ℕ) → k ≡ openSize st → v ≡ roomAt (st .written) n k → v ≡ openAt st n
+    pub open-room : st .opened < mostOpened → (k : ℕ) → k ≡ openSize st → v ≡ roomAt (st .written) n k → v ≡ openAt st n
     unfolding openAt
-    open-room h k q r = rw (← e, z, lt-ltb (st .opened) 65536 h, ← q) r
+    open-room h k q r = rw (← e, z, lt-ltb (st .opened) mostOpened h, ← q) r
 
 pub ruleset opens = (open-turn, open-many, open-room)
 
 -- what a state between records keeps to
-pub idle-keeps : (st : Writing) (n : ℕ) (b : Bool) → b ≡ idleOf st n → b ≡ true → (st .header ≤ 128) × (st .address ≤ 128) × (st .opened ≤ 65536)
+pub idle-keeps : (st : Writing) (n : ℕ) (b : Bool) → b ≡ idleOf st n → b ≡ true
+    → (st .header ≤ mostColumns) × (st .address ≤ mostColumns) × (st .opened ≤ mostOpened)
 idle-keeps st n b e z = let s = idle-in st n (sym e ∙ z) in (s .heads, s .rows, s .records)
 
-pub open-keeps : (st : Writing) (n : ℕ) (v : Verdict) → v ≡ openAt st n → v ≡ clear → (st .header ≤ 128) × (st .address ≤ 128) × (st .opened ≤ 65536)
+pub open-keeps : (st : Writing) (n : ℕ) (v : Verdict) → v ≡ openAt st n → v ≡ clear
+    → (st .header ≤ mostColumns) × (st .address ≤ mostColumns) × (st .opened ≤ mostOpened)
 open-keeps st n v e z = let o = open-in st n (sym e ∙ z) in (o .sane .heads, o .sane .rows, o .sane .records)
 
 module _ (st : Writing) (d : List ℕ) (v : Verdict) (e : v ≡ openAt st (length d)) where
@@ -79,7 +90,7 @@ module _ (st : Writing) (d : List ℕ) (v : Verdict) (e : v ≡ openAt st (lengt
   open-left r z = rw (← e) (refused-kept v r d (stored d (st .written) (replicate (openSize st) 0)) z)
 
   module _ (z : v ≡ clear) (k : ℕ) (q : k ≡ openSize st) where
-    pub open-fits : (st .written + k ≤ mostOctets) × (st .opened ≤ 65536)
+    pub open-fits : (st .written + k ≤ mostOctets) × (st .opened ≤ mostOpened)
     open-fits = let o = open-in st (length d) (sym e ∙ z) in (rw q (o .roomy .limit), o .sane .records)
 
     pub open-done : (next : Writing) (o : Outcome) → next ≡ openNext st k → o ≡ settled v st next → o ≡ openOutcome st d
@@ -138,7 +149,7 @@ module _ (st : Writing) (d : List ℕ) (b : Bool) (e : b ≡ withinOf st (length
   close-turn v z q = rw (← e, z) q
 
   module _ (z : b ≡ true) where
-    pub close-keeps : (st .start + 4 ≤ length d) × (st .header ≤ 128) × (st .address ≤ 128)
+    pub close-keeps : (st .start + 4 ≤ length d) × (st .header ≤ mostColumns) × (st .address ≤ mostColumns)
     close-keeps =
         let w = within-in st (length d) (sym e ∙ z) in
         let f = w .framed in
@@ -246,22 +257,21 @@ module _ (st : Writing) (d : List ℕ) (v : Verdict) (e : v ≡ finishAt st (len
     unfolding finishOutcome
     finish-done next o p r = rw (← e, ← p) r
 
-    pub finish-put : (x : List ℕ) → x ≡ sealedTo d (st .written) (st .opened - 1) → x ≡ finishOctets st d
+    pub finish-put : (x : List ℕ) → x ≡ sealedIn d (st .written) (st .opened - 1) → x ≡ finishOctets st d
     unfolding finishOctets
-    finish-put x p = rw (← e, z) p
-
-pub seal-is : (d : List ℕ) (w n s : ℕ) (m x : List ℕ) → s ≡ serialOf (take (w - 12) (drop 12 d)) → m ≡ stored d 8 (leOf 4 n) → x ≡ stored m 4 (leOf 4 s) → x ≡ sealedTo d w n
-unfolding sealedTo
-seal-is d w n s m x p q r = rw (← p, ← q) r
+    finish-put x p =
+        let k = finish-keeps in
+        rw (← e, z) (p ∙ sealed-in d (st .written) (st .opened - 1) (k .0) (k .1))
 
 -- ---- open_size
 
 pub size-is : (st : Writing) (k m : ℕ) → k ≡ columnsOf st (st .opened + 1) → m ≡ room k → 4 + m ≡ openSize st
 size-is st k m e q = rw (← e, q)
 
-pub size-few : (st : Writing) (k m : ℕ) → k ≡ columnsOf st (st .opened + 1) → m ≡ room k → st .header ≤ 128 → st .address ≤ 128 → 4 + m ≤ 20
+pub size-few : (st : Writing) (k m : ℕ) → k ≡ columnsOf st (st .opened + 1) → m ≡ room k → st .header ≤ mostColumns
+    → st .address ≤ mostColumns → 4 + m ≤ 20
 size-few st k m e q h a = let l = few (eqb (st .opened + 1) 1) in omega arith
   where
-    few : (t : Bool) → cond t (st .header) (st .address) ≤ 128
+    few : (t : Bool) → cond t (st .header) (st .address) ≤ mostColumns
     few true = h
     few false = a

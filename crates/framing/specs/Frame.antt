@@ -8,13 +8,14 @@ use lib.ListN.{length, take, drop, replicate}
 use Rattle.octets.specs.Splice.{stored}
 use Rattle.octets.specs.Word.{leOf, wordOf}
 use Rattle.serial.specs.Serial.{serialOf}
-use Rattle.answers.specs.Numbers.{outOfTurn, breaksRule}
+use Rattle.answers.specs.Numbers.{outOfTurn, breaksRule, mostOpened}
 use Rattle.answers.specs.declared.Verdict.{Verdict}
 use Rattle.answers.specs.declared.Verdict.the-variants.{Clear as clear}
 use Rattle.answers.specs.Verdict.{_then_, need, kept}
 use Rattle.presence.specs.Presence.{room, isSet}
 use Rattle.entry.specs.Slots.{keyBit}
-use Rattle.writing.specs.State.{settled, columnsOf, idleOf, withinOf, roomAt}
+use Rattle.book.specs.Sealed.{sealedTo}
+use Rattle.writing.specs.State.{settled, columnsOf, idleOf, withinOf, roomAt, finishedStage}
 use Rattle.writing.specs.declared.Writing.{Writing}
 use Rattle.writing.specs.declared.Outcome.{Outcome}
 
@@ -27,7 +28,7 @@ openSize st = 4 + room (columnsOf st (st .opened + 1))
 unfoldable pub openAt : Writing → ℕ → Verdict
 openAt st n =
     need (idleOf st n) outOfTurn 0
-    then need (ltb (st .opened) 65536) breaksRule 0
+    then need (ltb (st .opened) mostOpened) breaksRule 0
     then roomAt (st .written) n (openSize st)
 
 abbrev pub openNext : Writing → ℕ → Writing
@@ -94,14 +95,10 @@ finishAt st n =
     then need (not (eqb (st .opened) 1)) breaksRule 0
 
 abbrev pub finishNext : Writing → Writing
-finishNext st = betweenOf st 1
+finishNext st = betweenOf st finishedStage
 
 unfoldable pub finishOutcome : Writing → List ℕ → Outcome
 finishOutcome st d = settled (finishAt st (length d)) st (finishNext st)
-
--- the octets d, written up to w, with the count n and the serial of what follows the header
-unfoldable pub sealedTo : List ℕ → ℕ → ℕ → List ℕ
-sealedTo d w n = stored (stored d 8 (leOf 4 n)) 4 (leOf 4 (serialOf (take (w - 12) (drop 12 d))))
 
 unfoldable pub finishOctets : Writing → List ℕ → List ℕ
 finishOctets st d = kept (finishAt st (length d)) d (sealedTo d (st .written) (st .opened - 1))

@@ -9,13 +9,16 @@ use writing::Writing;
 ghost use mathlib.Core.Path.{_≡_};
 ghost use Prim.Native.Nat.{_+_, _*_, _≤_};
 ghost use lib.ListN.{length};
-ghost use Rattle.framing.specs.Frame.{openSize, openAt, openNext, openOutcome, openOctets, keysFrom, betweenOf, closeAt, closeOutcome, closeOctets, finishAt, sealedTo, finishOutcome, finishOctets};
+ghost use Rattle.answers.specs.Numbers.{mostOctets, mostColumns, mostOpened};
+ghost use Rattle.framing.specs.Frame.{openSize, openAt, openNext, openOutcome, openOctets, keysFrom, betweenOf};
+ghost use Rattle.framing.specs.Frame.{closeAt, closeOutcome, closeOctets, finishAt, finishOutcome, finishOctets};
+ghost use Rattle.book.specs.Sealed.{sealedIn};
 
 // ---- open
 
 // The size field and the presence octets of the next record.
 fn open_size(st: Writing) -> usize
-    requires { ⌜ (st .header ≤ 128) × (st .address ≤ 128) × (st .opened ≤ 65536) ⌝ }
+    requires { ⌜ (st .header ≤ mostColumns) × (st .address ≤ mostColumns) × (st .opened ≤ mostOpened) ⌝ }
     ensures { λ r. ⌜ (r ≡ openSize st) × (r ≤ 20) ⌝ }
 {
     let k = writing::columns_of(st, st.opened + 1);
@@ -26,7 +29,7 @@ fn judge_open(st: Writing, n: usize) -> Verdict
     ensures { λ r. ⌜ r ≡ openAt st n ⌝ }
 {
     if writing::idle(st, n) {
-        if st.opened < 65536 {
+        if st.opened < answers::MOST_OPENED {
             let k = open_size(st);
             return writing::judge_room(st.written, n, k);
         }
@@ -36,7 +39,7 @@ fn judge_open(st: Writing, n: usize) -> Verdict
 }
 
 fn opened(st: Writing, k: usize) -> Writing
-    requires { ⌜ (st .written + k ≤ 16777216) × (st .opened ≤ 65536) ⌝ }
+    requires { ⌜ (st .written + k ≤ mostOctets) × (st .opened ≤ mostOpened) ⌝ }
     ensures { λ r. ⌜ r ≡ openNext st k ⌝ }
 {
     Writing {
@@ -70,7 +73,7 @@ pub fn open(st: Writing, buf: &mut [u8]) -> Outcome
 
 // Whether each key of n columns has its bit; the first flags field stands at `flags`, the presence octets are the front of `p`.
 fn keys_held(buf: &[u8], flags: usize, p: &[u8], n: usize) -> bool
-    requires { ⌜ (flags ≤ 65536) × (n ≤ 128) ⌝ }
+    requires { ⌜ (flags ≤ mostOctets) × (n ≤ mostColumns) ⌝ }
     ensures { λ r. ⌜ r ≡ keysFrom (now (buf .entry)) flags (now (p .entry)) n 0 ⌝ }
 {
     let mut i = 0;
@@ -149,13 +152,18 @@ fn judge_finish(st: Writing, n: usize) -> Verdict
     refuse(answers::OUT_OF_TURN, 0)
 }
 
-// The count and the serial of a book that is written up to `end`.
-fn seal(buf: &mut [u8], end: usize, count: u64)
-    requires { ⌜ (12 ≤ end) × (end ≤ length (now buf)) ⌝ }
-    ensures { λ _. ⌜ now (buf .exit) ≡ sealedTo (now (buf .entry)) end count ⌝ }
+// The count and the serial of a book that is written up to `end`; where no such book can stand nothing changes.
+pub fn seal(buf: &mut [u8], end: usize, count: usize)
+    ensures { λ _. ⌜ now (buf .exit) ≡ sealedIn (now (buf .entry)) end count ⌝ }
 {
+    if end < 12 {
+        return;
+    }
+    if buf.len() < end {
+        return;
+    }
     let serial = serial::serial_of(&buf[12..end]);
-    put_word(buf, 8, 4, count);
+    put_word(buf, 8, 4, count as u64);
     put_word(buf, 4, 4, serial as u64);
 }
 
@@ -166,7 +174,7 @@ pub fn finish(st: Writing, buf: &mut [u8]) -> Outcome
     let Verdict::Clear = v else {
         return writing::settle(v, st, st);
     };
-    seal(buf, st.written, (st.opened - 1) as u64);
-    let next = between(st, 1);
+    seal(buf, st.written, st.opened - 1);
+    let next = between(st, writing::FINISHED);
     writing::settle(v, st, next)
 }

@@ -12,7 +12,7 @@ use Rattle.octets.specs.Cases.{taken}
 use Rattle.octets.specs.Octets.{rest-of}
 use Rattle.octets.specs.Splice.{stored}
 use Rattle.octets.specs.Word.{wordOf}
-use Rattle.answers.specs.Numbers.{outOfTurn, breaksForm, mostOctets}
+use Rattle.answers.specs.Numbers.{outOfTurn, breaksForm, mostOctets, mostColumns}
 use Rattle.answers.specs.declared.Refusal.{Refusal}
 use Rattle.answers.specs.declared.Verdict.{Verdict}
 use Rattle.answers.specs.declared.Verdict.the-variants.{Clear as clear, Refused}
@@ -27,7 +27,9 @@ use Rattle.writing.specs.declared.Written.the-variants as written
 use Rattle.writing.specs.State.{settled, doneWith, columnsOf, withinOf, roomAt, Roomy, room-in, Within, within-in}
 use Rattle.writing.specs.Column.{rowFrom, columnFor}
 use Rattle.table.specs.Found.{isFound, columnOf}
-use Rattle.giving.specs.Give.{Given, Octets, formed, octetsFor, leftOf, formLeft, givenTo, marked, giveAt, giveOutcome, giveOctets, elementForm, dueForm, elementAt, addedTo, elementOutcome, elementOctets}
+use Rattle.giving.specs.Give.{Given, Octets, formed, octetsFor, leftOf, formLeft, givenTo, marked, giveAt}
+use Rattle.giving.specs.Give.{giveOutcome, giveOctets, elementForm, dueForm, elementAt, addedTo, elementOutcome}
+use Rattle.giving.specs.Give.{elementOctets}
 use Rattle.giving.specs.Size.{sizeOf, sizedAt, placedAt, addedAt, sized, octets-long}
 
 -- ---- what a clear verdict stands on
@@ -72,7 +74,7 @@ turn-in st d t j e =
 
 pub record Gives (st : Writing) (d : List ℕ) (column k : ℕ) : Type 0 where
   pub limit : st .written + k ≤ mostOctets
-  pub few : column < 128
+  pub few : column < mostColumns
   pub started : st .start + 4 ≤ length d
 
 pub gives : (st : Writing) (d : List ℕ) (tag column k : ℕ) (p : Found) (v : Verdict)

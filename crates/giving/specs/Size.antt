@@ -18,12 +18,14 @@ use Rattle.answers.specs.Walk.{endsAt}
 use Rattle.whole.specs.Number.{encodeNumber}
 use Rattle.text.specs.Narrow.{narrowOf}
 use Rattle.text.specs.Utf8.{textOf}
-use Rattle.value.specs.Types.{Kind, nothing, number, truth, narrow, text, binary, Form, one, kindNumber, kindAt, formAt}
+use Rattle.value.specs.Types.{Kind, nothing, number, truth, narrow, text, binary, Form, one, kindNumber, kindAt}
+use Rattle.value.specs.Types.{formAt, listForm, formsEnd, unknownForm}
 use Rattle.writing.specs.declared.Writing.{Writing}
 use Rattle.writing.specs.State.{withinOf, roomAt}
 use Rattle.writing.specs.Column.{columnFor}
 use Rattle.table.specs.Found.{isFound}
-use Rattle.giving.specs.Give.{Given, Number, Truth, Octets, Count, isOne, octetsOf, octetsFormed, formed, octetsFor, elementForm}
+use Rattle.giving.specs.Give.{Given, Number, Truth, Octets, Count, isOne, octetsOf, octetsFormed, formed}
+use Rattle.giving.specs.Give.{octetsFor, elementForm}
 
 abbrev pub sizeOf : Form → Given → ℕ
 sizeOf f v = cond (formed f v) (length (octetsFor f v)) 0
@@ -92,7 +94,13 @@ kind-number (suc (suc (suc (suc (suc (suc n)))))) h = absurd (omega arith)
 
 kind-none : (n : ℕ) → 6 ≤ n → kindNumber (kindAt n) ≡ 0
 kind-none n h =
-    simp (ne-eqb n 1 (λ e. omega arith), ne-eqb n 2 (λ e. omega arith), ne-eqb n 3 (λ e. omega arith), ne-eqb n 4 (λ e. omega arith), ne-eqb n 5 (λ e. omega arith))
+    simp (
+      ne-eqb n (kindNumber number) (λ e. omega arith),
+      ne-eqb n (kindNumber truth) (λ e. omega arith),
+      ne-eqb n (kindNumber narrow) (λ e. omega arith),
+      ne-eqb n (kindNumber text) (λ e. omega arith),
+      ne-eqb n (kindNumber binary) (λ e. omega arith),
+    )
 
 kind-few : (k : Kind) → kindNumber k < 6
 kind-few nothing = omega arith
@@ -106,17 +114,26 @@ one-at : (k : Kind) (n : ℕ) → 1 ≤ kindNumber k → isOne k (formAt n) ≡ 
 unfolding formAt
 one-at k n h =
     let m = kind-few k in
-    split n 8
-    (λ i. rw (lt-ltb n 8 i) (split n 6 (λ j. rw (kind-number n j))
+    split n listForm
+    (λ i. rw (lt-ltb n listForm i) (split n 6 (λ j. rw (kind-number n j))
     (λ j. rw (kind-none n j, ne-eqb 0 (kindNumber k) (λ e. omega arith), ne-eqb n (kindNumber k) (λ e. omega arith)))))
-    (λ i. split n 16 (λ j. rw (le-ltb n 8 i, lt-ltb n 16 j, ne-eqb n (kindNumber k) (λ e. omega arith)))
-    (λ j. rw (le-ltb n 8 i, le-ltb n 16 j, ne-eqb n (kindNumber k) (λ e. omega arith))))
+    (λ i. split n formsEnd
+    (λ j. rw (le-ltb n listForm i, lt-ltb n formsEnd j, ne-eqb n (kindNumber k) (λ e. omega arith)))
+    (λ j. rw (le-ltb n listForm i, le-ltb n formsEnd j, ne-eqb n (kindNumber k) (λ e. omega arith))))
 
-octets-other : (n : ℕ) (s : List ℕ) → (n ≡ 3 → ⊥) → (n ≡ 4 → ⊥) → (n ≡ 5 → ⊥) → octetsFormed (formAt n) s ≡ false
+octets-other : (n : ℕ) (s : List ℕ) → (n ≡ kindNumber narrow → ⊥) → (n ≡ kindNumber text → ⊥)
+    → (n ≡ kindNumber binary → ⊥) → octetsFormed (formAt n) s ≡ false
 unfolding formAt
 octets-other n s h₃ h₄ h₅ =
-    split n 8 (λ i. rw (lt-ltb n 8 i, ne-eqb n 3 h₃, ne-eqb n 4 h₄, ne-eqb n 5 h₅) (go (eqb n 1) (eqb n 2)))
-    (λ i. split n 16 (λ j. rw (le-ltb n 8 i, lt-ltb n 16 j)) (λ j. rw (le-ltb n 8 i, le-ltb n 16 j)))
+    split n listForm
+    (λ i. rw (
+      lt-ltb n listForm i,
+      ne-eqb n (kindNumber narrow) h₃,
+      ne-eqb n (kindNumber text) h₄,
+      ne-eqb n (kindNumber binary) h₅,
+    ) (go (eqb n (kindNumber number)) (eqb n (kindNumber truth))))
+    (λ i. split n formsEnd (λ j. rw (le-ltb n listForm i, lt-ltb n formsEnd j))
+    (λ j. rw (le-ltb n listForm i, le-ltb n formsEnd j)))
   where
     go : (a b : Bool) → octetsOf (cond a number (cond b truth nothing)) s ≡ false
     go true b = refl
@@ -126,57 +143,60 @@ octets-other n s h₃ h₄ h₅ =
 -- ---- the ways of the sizes
 
 module _ (f : ℕ) where
-  pub element-single : f < 8 → formAt 255 ≡ elementForm (formAt f)
+  pub element-single : f < listForm → formAt unknownForm ≡ elementForm (formAt f)
   unfolding formAt
-  element-single h = rw (lt-ltb f 8 h)
+  element-single h = rw (lt-ltb f listForm h)
 
-  pub element-list : 8 ≤ f → f < 16 → formAt (f - 8) ≡ elementForm (formAt f)
+  pub element-list : listForm ≤ f → f < formsEnd → formAt (f - listForm) ≡ elementForm (formAt f)
   unfolding formAt
-  element-list h i = rw (le-ltb f 8 h, lt-ltb f 16 i, lt-ltb (f - 8) 8 (omega arith))
+  element-list h i = rw (le-ltb f listForm h, lt-ltb f formsEnd i, lt-ltb (f - listForm) listForm (omega arith))
 
-  pub element-none : 8 ≤ f → 16 ≤ f → formAt 255 ≡ elementForm (formAt f)
+  pub element-none : listForm ≤ f → formsEnd ≤ f → formAt unknownForm ≡ elementForm (formAt f)
   unfolding formAt
-  element-none h i = rw (le-ltb f 8 h, le-ltb f 16 i)
+  element-none h i = rw (le-ltb f listForm h, le-ltb f formsEnd i)
 
-  pub size-number : (k x : ℕ) → f ≡ 1 → k ≡ length (encodeNumber x) → k ≡ sizeOf (formAt f) (Number x)
-  size-number k x e q = rw (one-at number f (omega arith), eq-eqb f 1 e) q
+  pub size-number : (k x : ℕ) → f ≡ kindNumber number → k ≡ length (encodeNumber x) → k ≡ sizeOf (formAt f) (Number x)
+  size-number k x e q = rw (one-at number f (omega arith), eq-eqb f (kindNumber number) e) q
 
-  pub size-no-number : (x : ℕ) → (f ≡ 1 → ⊥) → 0 ≡ sizeOf (formAt f) (Number x)
-  size-no-number x e = rw (one-at number f (omega arith), ne-eqb f 1 e)
+  pub size-no-number : (x : ℕ) → (f ≡ kindNumber number → ⊥) → 0 ≡ sizeOf (formAt f) (Number x)
+  size-no-number x e = rw (one-at number f (omega arith), ne-eqb f (kindNumber number) e)
 
-  pub size-truth : f ≡ 2 → 1 ≡ sizeOf (formAt f) (Truth true)
-  size-truth e = rw (one-at truth f (omega arith), eq-eqb f 2 e)
+  pub size-truth : f ≡ kindNumber truth → 1 ≡ sizeOf (formAt f) (Truth true)
+  size-truth e = rw (one-at truth f (omega arith), eq-eqb f (kindNumber truth) e)
 
-  pub size-no-truth : (f ≡ 2 → ⊥) → 0 ≡ sizeOf (formAt f) (Truth true)
-  size-no-truth e = rw (one-at truth f (omega arith), ne-eqb f 2 e)
+  pub size-no-truth : (f ≡ kindNumber truth → ⊥) → 0 ≡ sizeOf (formAt f) (Truth true)
+  size-no-truth e = rw (one-at truth f (omega arith), ne-eqb f (kindNumber truth) e)
 
   module _ (n : ℕ) where
     pub size-count-none : n ≡ 0 → 0 ≡ sizeOf (formAt f) (Count n)
     size-count-none e = rw (eq-eqb n 0 e)
 
     module _ (h : n ≡ 0 → ⊥) where
-      pub size-count-one : f < 8 → 0 ≡ sizeOf (formAt f) (Count n)
+      pub size-count-one : f < listForm → 0 ≡ sizeOf (formAt f) (Count n)
       unfolding formAt
-      size-count-one i = rw (ne-eqb n 0 h, lt-ltb f 8 i)
+      size-count-one i = rw (ne-eqb n 0 h, lt-ltb f listForm i)
 
-      pub size-count : (k : ℕ) → 8 ≤ f → f < 16 → k ≡ length (encodeNumber n) → k ≡ sizeOf (formAt f) (Count n)
+      pub size-count : (k : ℕ) → listForm ≤ f → f < formsEnd → k ≡ length (encodeNumber n)
+          → k ≡ sizeOf (formAt f) (Count n)
       unfolding formAt
-      size-count k i j q = rw (ne-eqb n 0 h, le-ltb f 8 i, lt-ltb f 16 j) q
+      size-count k i j q = rw (ne-eqb n 0 h, le-ltb f listForm i, lt-ltb f formsEnd j) q
 
-      pub size-count-unknown : 8 ≤ f → 16 ≤ f → 0 ≡ sizeOf (formAt f) (Count n)
+      pub size-count-unknown : listForm ≤ f → formsEnd ≤ f → 0 ≡ sizeOf (formAt f) (Count n)
       unfolding formAt
-      size-count-unknown i j = rw (ne-eqb n 0 h, le-ltb f 8 i, le-ltb f 16 j)
+      size-count-unknown i j = rw (ne-eqb n 0 h, le-ltb f listForm i, le-ltb f formsEnd j)
 
   module _ (s : List ℕ) (k : ℕ) where
-    pub size-narrow : (b : Bool) → f ≡ 3 → b ≡ endsAt (narrowOf (s ++ (0 ∷ []))) (length s + 1) → k ≡ cond b (length s + 1) 0 → k ≡ sizeOf (formAt f) (Octets s)
+    pub size-narrow : (b : Bool) → f ≡ kindNumber narrow → b ≡ endsAt (narrowOf (s ++ (0 ∷ []))) (length s + 1)
+        → k ≡ cond b (length s + 1) 0 → k ≡ sizeOf (formAt f) (Octets s)
     unfolding formAt
     size-narrow b e p q = rw (e, ← p, length-append s (0 ∷ [])) q
 
-    pub size-text : (b : Bool) → f ≡ 4 → b ≡ endsAt (textOf (s ++ (0 ∷ []))) (length s + 1) → k ≡ cond b (length s + 1) 0 → k ≡ sizeOf (formAt f) (Octets s)
+    pub size-text : (b : Bool) → f ≡ kindNumber text → b ≡ endsAt (textOf (s ++ (0 ∷ []))) (length s + 1)
+        → k ≡ cond b (length s + 1) 0 → k ≡ sizeOf (formAt f) (Octets s)
     unfolding formAt
     size-text b e p q = rw (e, ← p, length-append s (0 ∷ [])) q
 
-    pub size-binary : f ≡ 5 → k ≡ binarySize (length s) → k ≡ sizeOf (formAt f) (Octets s)
+    pub size-binary : f ≡ kindNumber binary → k ≡ binarySize (length s) → k ≡ sizeOf (formAt f) (Octets s)
     unfolding formAt
     size-binary e q = q ∙ rw (e, length-append (encodeNumber (length s)) s) (go (eqb (length s) 0) (ltb (length s) 4294967296))
       where
@@ -185,7 +205,8 @@ module _ (f : ℕ) where
         go false true = refl
         go false false = refl
 
-  pub size-other : (s : List ℕ) → (f ≡ 3 → ⊥) → (f ≡ 4 → ⊥) → (f ≡ 5 → ⊥) → 0 ≡ sizeOf (formAt f) (Octets s)
+  pub size-other : (s : List ℕ) → (f ≡ kindNumber narrow → ⊥) → (f ≡ kindNumber text → ⊥) → (f ≡ kindNumber binary → ⊥)
+      → 0 ≡ sizeOf (formAt f) (Octets s)
   size-other s h₃ h₄ h₅ = rw (octets-other f s h₃ h₄ h₅)
 
 pub ruleset elements = (element-single, element-list, element-none)
@@ -221,25 +242,29 @@ module _ (d : List ℕ) (i : ℕ) (b : Bool) (l : List ℕ) where
 pub ruleset truths = (put-yes, put-no)
 
 module _ (f : ℕ) (s : List ℕ) where
-  pub binary-octets : f ≡ 5 → octetsFor (formAt f) (Octets s) ≡ encodeNumber (length s) ++ s
-  binary-octets e = rw (one-at binary f (omega arith), eq-eqb f 5 e)
+  pub binary-octets : f ≡ kindNumber binary → octetsFor (formAt f) (Octets s) ≡ encodeNumber (length s) ++ s
+  binary-octets e = rw (one-at binary f (omega arith), eq-eqb f (kindNumber binary) e)
 
-  pub string-octets : (f ≡ 5 → ⊥) → octetsFor (formAt f) (Octets s) ≡ s ++ (0 ∷ [])
-  string-octets e = rw (one-at binary f (omega arith), ne-eqb f 5 e)
+  pub string-octets : (f ≡ kindNumber binary → ⊥) → octetsFor (formAt f) (Octets s) ≡ s ++ (0 ∷ [])
+  string-octets e = rw (one-at binary f (omega arith), ne-eqb f (kindNumber binary) e)
 
-  pub binary-length : f ≡ 5 → length (octetsFor (formAt f) (Octets s)) ≡ length (encodeNumber (length s)) + length s
+  pub binary-length : f ≡ kindNumber binary
+      → length (octetsFor (formAt f) (Octets s)) ≡ length (encodeNumber (length s)) + length s
   binary-length e = ap length (binary-octets e) ∙ length-append (encodeNumber (length s)) s
 
-  pub string-length : (f ≡ 5 → ⊥) → length (octetsFor (formAt f) (Octets s)) ≡ length s + 1
+  pub string-length : (f ≡ kindNumber binary → ⊥) → length (octetsFor (formAt f) (Octets s)) ≡ length s + 1
   string-length e = ap length (string-octets e) ∙ length-append s (0 ∷ [])
 
   module _ (d m l : List ℕ) (i : ℕ) (h : i + length (octetsFor (formAt f) (Octets s)) ≤ length d) where
-    pub put-binary : (k : ℕ) → f ≡ 5 → m ≡ stored d i (encodeNumber (length s)) → k ≡ length (encodeNumber (length s)) → l ≡ stored m (i + k) s → l ≡ stored d i (octetsFor (formAt f) (Octets s))
+    pub put-binary : (k : ℕ) → f ≡ kindNumber binary → m ≡ stored d i (encodeNumber (length s))
+        → k ≡ length (encodeNumber (length s)) → l ≡ stored m (i + k) s
+        → l ≡ stored d i (octetsFor (formAt f) (Octets s))
     put-binary k e p w q =
         let n = binary-length e in
         rw (q, p, w, binary-octets e) (stored-join d (encodeNumber (length s)) s i (i + length (encodeNumber (length s))) refl (omega arith))
 
-    pub put-string : (f ≡ 5 → ⊥) → m ≡ stored d i s → l ≡ stored m (i + length s) (leOf 1 0) → l ≡ stored d i (octetsFor (formAt f) (Octets s))
+    pub put-string : (f ≡ kindNumber binary → ⊥) → m ≡ stored d i s → l ≡ stored m (i + length s) (leOf 1 0)
+        → l ≡ stored d i (octetsFor (formAt f) (Octets s))
     put-string e p q =
         let n = string-length e in
         rw (q, p, string-octets e) (stored-join d s (0 ∷ []) i (i + length s) refl (omega arith))

@@ -24,11 +24,13 @@ use writing::within;
 ghost use mathlib.Core.Path.{_≡_};
 ghost use Prim.Native.Nat.{_+_, _≤_, _<_};
 ghost use lib.ListN.{length};
+ghost use Rattle.answers.specs.Numbers.{mostOctets, mostColumns};
 ghost use Rattle.answers.specs.Verdict.{kept};
 ghost use Rattle.writing.specs.State.{settled};
 ghost use Rattle.writing.specs.Column.{columnFor};
 ghost use Rattle.table.specs.Found.{columnOf};
-ghost use Rattle.giving.specs.Give.{Number, Truth, Octets, Count, givenTo, marked, giveOutcome, giveOctets, addedTo, elementOutcome, elementOctets};
+ghost use Rattle.giving.specs.Give.{Number, Truth, Octets, Count, givenTo, marked, giveOutcome, giveOctets};
+ghost use Rattle.giving.specs.Give.{addedTo, elementOutcome, elementOctets};
 ghost use Rattle.giving.specs.Size.{sizedAt, placedAt, addedAt};
 
 // A value of `size` octets, 0 where it breaks its form, behind the written octets in a buffer of n.
@@ -51,7 +53,7 @@ fn mark(buf: &mut [u8], at: usize, column: usize)
 
 // The state behind a value of `size` octets in a column.
 fn behind_value(st: Writing, column: usize, size: usize, left: usize, form: u8) -> Writing
-    requires { ⌜ (st .written + size ≤ 16777216) × (column < 128) ⌝ }
+    requires { ⌜ (st .written + size ≤ mostOctets) × (column < mostColumns) ⌝ }
     ensures { λ r. ⌜ r ≡ givenTo st column size left form ⌝ }
 {
     Writing {
@@ -139,7 +141,7 @@ pub fn give_list(st: Writing, buf: &mut [u8], tag: u32, count: u32) -> Outcome
 
 // The state behind an element of `size` octets.
 fn behind_element(st: Writing, size: usize) -> Writing
-    requires { ⌜ (st .written + size ≤ 16777216) × (1 ≤ st .left) ⌝ }
+    requires { ⌜ (st .written + size ≤ mostOctets) × (1 ≤ st .left) ⌝ }
     ensures { λ r. ⌜ r ≡ addedTo st size ⌝ }
 {
     Writing {

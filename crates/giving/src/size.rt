@@ -1,6 +1,14 @@
 // What is handed over, by the number of a form: the octets that it takes, 0 where it breaks the form, and those octets stored.
 use octets::copy;
 use octets::put_word;
+use value::BINARY;
+use value::FORMS;
+use value::LIST;
+use value::NARROW;
+use value::NUMBER;
+use value::TEXT;
+use value::TRUTH;
+use value::UNKNOWN;
 use whole::number_width;
 use whole::put_number;
 ghost use mathlib.Core.Path.{_≡_};
@@ -8,28 +16,29 @@ ghost use mathlib.Core.Bool.{true, cond};
 ghost use mathlib.Core.List.{[], _∷_};
 ghost use Prim.Native.Nat.{_+_, _≤_, _<_};
 ghost use lib.ListN.{length};
+ghost use Rattle.answers.specs.Numbers.{mostOctets};
 ghost use Rattle.octets.specs.Splice.{stored};
 ghost use Rattle.value.specs.Types.{formAt};
 ghost use Rattle.giving.specs.Give.{Number, Truth, Octets, Count, octetsFor, elementForm};
 ghost use Rattle.giving.specs.Size.{sizeOf, binarySize};
 
-// The form of a list's elements; 255 where the form isn't a list's.
+// The form of a list's elements; unknown where the form isn't a list's.
 pub fn element_form(form: u8) -> u8
     ensures { λ r. ⌜ formAt r ≡ elementForm (formAt form) ⌝ }
 {
-    if form < 8 {
-        return 255;
+    if form < LIST {
+        return UNKNOWN;
     }
-    if form < 16 {
-        return form - 8;
+    if form < FORMS {
+        return form - LIST;
     }
-    255
+    UNKNOWN
 }
 
 pub fn number_size(form: u8, value: u32) -> usize
     ensures { λ r. ⌜ r ≡ sizeOf (formAt form) (Number value) ⌝ }
 {
-    if form == 1 {
+    if form == NUMBER {
         return number_width(value);
     }
     0
@@ -38,7 +47,7 @@ pub fn number_size(form: u8, value: u32) -> usize
 pub fn truth_size(form: u8) -> usize
     ensures { λ r. ⌜ r ≡ sizeOf (formAt form) (Truth true) ⌝ }
 {
-    if form == 2 {
+    if form == TRUTH {
         return 1;
     }
     0
@@ -50,10 +59,10 @@ pub fn list_size(form: u8, count: u32) -> usize
     if count == 0 {
         return 0;
     }
-    if form < 8 {
+    if form < LIST {
         return 0;
     }
-    if form < 16 {
+    if form < FORMS {
         return number_width(count);
     }
     0
@@ -82,9 +91,9 @@ pub fn octets_size(form: u8, s: &[u8]) -> usize
     ensures { λ r. ⌜ r ≡ sizeOf (formAt form) (Octets (now (s .entry))) ⌝ }
 {
     match form {
-        3 => string_size(text::is_narrow(s), s.len()),
-        4 => string_size(text::is_utf8(s), s.len()),
-        5 => binary_size(s.len()),
+        NARROW => string_size(text::is_narrow(s), s.len()),
+        TEXT => string_size(text::is_utf8(s), s.len()),
+        BINARY => binary_size(s.len()),
         _ => 0,
     }
 }
@@ -101,10 +110,11 @@ pub fn put_truth(buf: &mut [u8], at: usize, yes: bool)
 
 // Octets with their length before them, or with a 0 behind.
 pub fn put_octets(buf: &mut [u8], at: usize, form: u8, s: &[u8])
-    requires { ⌜ (at + length (octetsFor (formAt form) (Octets (now s))) ≤ length (now buf)) × (length (now s) ≤ 16777216) ⌝ }
+    requires { ⌜ (at + length (octetsFor (formAt form) (Octets (now s))) ≤ length (now buf))
+        × (length (now s) ≤ mostOctets) ⌝ }
     ensures { λ _. ⌜ now (buf .exit) ≡ stored (now (buf .entry)) at (octetsFor (formAt form) (Octets (now (s .entry)))) ⌝ }
 {
-    if form == 5 {
+    if form == BINARY {
         let n = s.len() as u32;
         put_number(buf, at, n);
         copy(buf, at + number_width(n), s);

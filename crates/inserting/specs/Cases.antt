@@ -13,7 +13,8 @@ use mir.Syntax.{w64}
 use borrow.Author.Tests.{le-leb, lt-leb, leb-true, lt-ltb, le-ltb, ltb-true, eq-eqb, ne-eqb}
 use Rattle.octets.specs.Cases.{split}
 use Rattle.octets.specs.Word.{wordOf}
-use Rattle.answers.specs.Numbers.{cutShort, wrongSize, outOfTurn, breaksRule, noRoom, breaksForm, mostOctets, mostRecords}
+use Rattle.answers.specs.Numbers.{cutShort, wrongSize, outOfTurn, breaksRule, noRoom, breaksForm, mostOctets}
+use Rattle.answers.specs.Numbers.{mostRecords, mostColumns}
 use Rattle.answers.specs.declared.Refusal.{Refusal}
 use Rattle.answers.specs.declared.Verdict.{Verdict}
 use Rattle.answers.specs.declared.Verdict.the-variants.{Clear as clear, Refused}
@@ -25,8 +26,9 @@ use Rattle.table.specs.Columns.{columnsIn}
 use Rattle.entry.specs.Record.{Slot, isClear, presentIn, keysAt, recordAt, freed}
 use Rattle.entry.specs.Slots.{keyBit, slotsFrom, slots-many}
 use Rattle.book.specs.Book.{rowSlots, colsIn, tablesAt, bodyAt, countIn, headerAt, judge, sealed-length}
-use Rattle.book.specs.Judged.{Fits128, tablesIn, judgedOf}
-use Rattle.book.specs.JudgeCases.{slots-row, tables-fit}
+use Rattle.book.specs.Judged.{FitsArrays, judgedOf}
+use Rattle.book.specs.Front.{frontAt, judge-front}
+use Rattle.book.specs.JudgeCases.{slots-row, both-fit}
 use Rattle.book.specs.Good.{GoodIs, good-is, refused-by, good-keeps, forms-in, bits-in}
 use Rattle.book.specs.declared.Judgement.{Judgement}
 use Rattle.book.specs.declared.Judged.the-variants as judged
@@ -36,7 +38,8 @@ use Rattle.editing.specs.Put.{put, bufferOf, resealed, correctedOf}
 use Rattle.editing.specs.InPlace.{roomIn, room-keeps, put-length}
 use Rattle.editing.specs.Fits.{recordsPut, records-fit}
 use Rattle.editing.specs.Stands.{place-next, place-stands, number-stands}
-use Rattle.correcting.specs.Correct.{bookAt, roomFor, offeredAt, insertBook, insertAt, insertAnswer, insertOctets, deleteBook, deleteAt, deleteAnswer, deleteOctets}
+use Rattle.correcting.specs.Correct.{bookAt, roomFor, offeredAt, insertBook, insertAt, insertAnswer, insertOctets}
+use Rattle.correcting.specs.Correct.{deleteBook, deleteAt, deleteAnswer, deleteOctets}
 use Rattle.correcting.specs.declared.Corrected.the-variants as corrected
 use Rattle.inserting.specs.declared.Gap.{Gap}
 
@@ -162,13 +165,11 @@ insert-in len room count k new ss e =
 
 -- ---- the book is judged
 
-cols-fit : (b : List ℕ) → judge b ≡ clear → Fits128 (columnsIn (colsIn (drop 12 b)))
-unfolding tablesIn judge bodyAt
+cols-fit : (b : List ℕ) → judge b ≡ clear → FitsArrays (columnsIn (colsIn (drop 12 b)))
+unfolding frontAt
 cols-fit b e =
-    let c₁ = apart (headerAt b) _ e in
-    let c₂ = apart (bodyAt (countIn b) (drop 12 b)) _ (c₁ .1) in
-    let c₃ = apart (tablesAt (drop 12 b)) _ (c₂ .0) in
-    rw (c₁ .0, c₃ .0) at (tables-fit b (tablesIn b) refl .1)
+    let c = apart (headerAt b) _ (apart (frontAt b) _ (sym (judge-front b) ∙ e) .0) in
+    both-fit b (apart (tablesAt (drop 12 b)) _ (c .1) .0) .1
 
 module _ (b : List ℕ) (j : Judgement) (je : j ≡ judgedOf b) where
   pub insert-judged : (room k : ℕ) (new : List ℕ) (r : Refusal) (g : Gap) → j .judged ≡ judged.Refused r → g ≡ noGap (Refused r) → g ≡ insertGap b room k new
@@ -183,7 +184,8 @@ module _ (b : List ℕ) (j : Judgement) (je : j ≡ judgedOf b) where
     good : GoodIs b j c h f
     good = good-is b j l c h f je q
 
-    pub address-reach : (j .address .count ≤ 128) × (j .address .count ≤ length (j .address .forms)) × (j .address .count ≤ length (j .address .flags)) × (length b ≤ mostOctets)
+    pub address-reach : (j .address .count ≤ mostColumns) × (j .address .count ≤ length (j .address .forms))
+        × (j .address .count ≤ length (j .address .flags)) × (length b ≤ mostOctets)
     address-reach =
         let fit = cols-fit b (good .clears) in
         let x = fit .few in
@@ -197,7 +199,7 @@ module _ (b : List ℕ) (j : Judgement) (je : j ≡ judgedOf b) where
         let g = good .first in
         omega arith
 
-    place-is : (k at : ℕ) → k < 65536 → at ≡ walkBehind k f b → placeIn b k ≡ at
+    place-is : (k at : ℕ) → k ≤ mostRecords → at ≡ walkBehind k f b → placeIn b k ≡ at
     place-is k at h y = sym (y ∙ walk-behind k f b first-small h ∙ walk-place b k f (good .first))
 
     module _ (room k : ℕ) (new : List ℕ) (v : Verdict)
@@ -211,7 +213,7 @@ module _ (b : List ℕ) (j : Judgement) (je : j ≡ judgedOf b) where
       unfolding insertGap
       gap-refused r g z y = rw (good .clears, verdict-is, z) (rw z at y)
 
-      pub gap-few : v ≡ clear → (k < 65536) × (c < 65535)
+      pub gap-few : v ≡ clear → (k ≤ mostRecords) × (c < mostRecords)
       gap-few z = let i = insert-in (length b) room c k new _ (sym ve ∙ z) in (omega (arith, i .0, i .1), i .1)
 
       pub gap-insert : (at : ℕ) → v ≡ clear → at ≡ walkBehind k f b → _≡_ {A = Gap} (record { verdict = v; place = at; end = at; count = c + 1 }) (insertGap b room k new)
@@ -234,7 +236,7 @@ module _ (b : List ℕ) (j : Judgement) (je : j ≡ judgedOf b) where
             let n : countIn b ≡ c = sym (good .count) in
             rw (good .clears, n, lt-ltb k c y, le-ltb 1 c (omega arith)) (rw u at z)
 
-        pub gap-near : k < 65536
+        pub gap-near : k ≤ mostRecords
         gap-near =
             let n = good .count in
             let m = good-keeps b (good .clears) in

@@ -9,6 +9,7 @@ ghost use mathlib.Core.Path.{_≡_};
 ghost use mathlib.Core.List.{[]};
 ghost use Prim.Native.Nat.{_+_, _≤_};
 ghost use lib.ListN.{length, take};
+ghost use Rattle.answers.specs.Numbers.{mostColumns, mostOctets};
 ghost use Rattle.entry.specs.Slots.{slotsFrom};
 ghost use Rattle.correcting.specs.Correct.{offeredAt, insertAnswer, insertOctets, deleteAnswer, deleteOctets};
 ghost use Rattle.inserting.specs.Cases.{noGap, insertIn, insertGap, deleteGap};
@@ -35,7 +36,8 @@ fn no_gap(verdict: Verdict) -> Gap
 
 // An offered record to its last octet, keys aside; then its keys.
 fn judge_offered(new: &[u8], columns: Columns) -> Verdict
-    requires { ⌜ (columns .count ≤ 128) × (columns .count ≤ length (columns .forms)) × (columns .count ≤ length (columns .flags)) ⌝ }
+    requires { ⌜ (columns .count ≤ mostColumns) × (columns .count ≤ length (columns .forms))
+        × (columns .count ≤ length (columns .flags)) ⌝ }
     ensures { λ r. ⌜ r ≡ offeredAt (slotsFrom (take (columns .count) (columns .forms)) (take (columns .count) (columns .flags))) (now (new .entry)) ⌝ }
 {
     let n = columns.count;
@@ -63,7 +65,8 @@ fn judge_insert(
     new: &[u8],
     columns: Columns,
 ) -> Verdict
-    requires { ⌜ (columns .count ≤ 128) × (columns .count ≤ length (columns .forms)) × (columns .count ≤ length (columns .flags)) × (len ≤ 16777216) ⌝ }
+    requires { ⌜ (columns .count ≤ mostColumns) × (columns .count ≤ length (columns .forms))
+        × (columns .count ≤ length (columns .flags)) × (len ≤ mostOctets) ⌝ }
     ensures { λ r. ⌜ r ≡ insertIn len room count k (now (new .entry)) (slotsFrom (take (columns .count) (columns .forms)) (take (columns .count) (columns .flags))) ⌝ }
 {
     if count < k {

@@ -1,4 +1,5 @@
 pub mod Cases
 pub mod Octets
 pub mod Splice
+pub mod Stores
 pub mod Word

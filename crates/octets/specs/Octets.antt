@@ -6,6 +6,8 @@ use native.Mathlib.Omega.{arith}
 use native.Mathlib.Numerals.{add-one}
 use lib.ListN.{length, take, drop, getD, length-drop, take-append-drop, List·getD-eq-default}
 use lib.Seq.{take-all, take-at, drop-at, drop-cons, getD-drop, getD-append-add, take-append-seam, drop-append-seam}
+use mir.Val.{Fits}
+use mir.Syntax.{w8}
 use Rattle.octets.specs.Cases.{split}
 
 -- octet i, 0 past the end
@@ -15,6 +17,10 @@ octetAt xs i = getD xs i 0
 -- each is below 256
 abbrev pub Octets : List ℕ → Type 0
 Octets xs = (i : ℕ) → octetAt xs i < 256
+
+-- the stretch from s up to e lies within l octets
+abbrev pub Lies : ℕ → ℕ → ℕ → Type 0
+Lies s e l = (s ≤ e) × (e ≤ l)
 
 pub octets-drop : (n : ℕ) (xs : List ℕ) → Octets xs → Octets (drop n xs)
 octets-drop n xs o i = rw getD-drop (o (n + i))
@@ -34,6 +40,10 @@ octets-right xs ys o i = rw (getD-append-add xs ys i 0) at (o (length xs + i))
 
 pub octets-take : (n : ℕ) (xs : List ℕ) → Octets xs → Octets (take n xs)
 octets-take n xs o = octets-left (take n xs) (drop n xs) (λ i. rw (take-append-drop n xs) (o i))
+
+-- what a lent slice holds
+pub octets-from : (xs : List ℕ) → ((i : ℕ) → Fits w8 (getD xs i 0)) → Octets xs
+octets-from xs o i = let f = o i .fits in omega arith
 
 -- the n octets from i, one by one
 abbrev pub octetsFrom : ℕ → List ℕ → ℕ → List ℕ

@@ -99,21 +99,29 @@ moved-out d i e to h = rw (lt-leb e (length d) h)
 
 -- ---- two stores one behind the other are one
 
-splice-join : (d a b : List ℕ) (i : ℕ) → i + length a ≤ length d → splice (splice d i a) (i + length a) b ≡ splice d i (a ++ b)
+splice-next : (d a b : List ℕ) (i : ℕ) → i + length a ≤ length d
+    → splice (splice d i a) (i + length a) b ≡ splice d i (a ++ b)
 unfolding splice
-splice-join d a b i h =
-    let n : length (take i d ++ a) ≡ i + length a = simp (length-append, length-take-le i d (omega arith)) in
-    let t : take (i + length a) (take i d ++ a ++ drop (i + length a) d) ≡ take i d ++ a = take-at (take i d ++ a) (drop (i + length a) d) (i + length a) n in
-    let u : drop (i + length a + length b) (take i d ++ a ++ drop (i + length a) d) ≡ drop (i + length a + length b) d =
-    rw n at (drop-append-add (take i d ++ a) (drop (i + length a) d) (length b)) ∙ drop-drop (length b) (i + length a) d in
+splice-next d a b i h =
+    let p : List ℕ = take i d ++ a in
+    let r : List ℕ = drop (i + length a) d in
+    let n : length p ≡ i + length a = simp (length-append, length-take-le i d (omega arith)) in
+    let t : take (i + length a) (p ++ r) ≡ p = take-at p r (i + length a) n in
+    let u : drop (i + length a + length b) (p ++ r) ≡ drop (i + length a + length b) d =
+    rw n at (drop-append-add p r (length b)) ∙ drop-drop (length b) (i + length a) d in
     let s : i + length (a ++ b) ≡ i + length a + length b = simp length-append (omega arith) in
     rw (t, u, s) (simp append-assoc)
+
+pub splice-join : (d a b : List ℕ) (i j : ℕ) → j ≡ i + length a → j + length b ≤ length d
+    → splice (splice d i a) j b ≡ splice d i (a ++ b)
+splice-join d a b i j e h = rw e (splice-next d a b i (omega arith))
 
 pub stored-join : (d a b : List ℕ) (i j : ℕ) → j ≡ i + length a → j + length b ≤ length d → stored (stored d i a) j b ≡ stored d i (a ++ b)
 stored-join d a b i j e h =
     let s : length (splice d i a) ≡ length d = length-splice d i a (omega arith) in
     let n : length (a ++ b) ≡ length a + length b = length-append a b in
-    rw (stored-in d i a (omega arith), stored-in d i (a ++ b) (omega arith), stored-in (splice d i a) j b (omega arith), e) (splice-join d a b i (omega arith))
+    rw (stored-in d i a (omega arith), stored-in d i (a ++ b) (omega arith), stored-in (splice d i a) j b (omega arith))
+    (splice-join d a b i j e h)
 
 -- ---- loops, from their invariants
 

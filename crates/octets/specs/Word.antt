@@ -8,7 +8,8 @@ use native.Mathlib.Omega.{arith}
 use native.Mathlib.Numerals.{add-one}
 use lib.Arith.{lt-one}
 use lib.Dec.{ltb}
-use lib.ListN.{length, take, drop, getD, set, length-append, length-drop, take-append-drop, drop-of-length-le}
+use lib.ListN.{length, take, drop, getD, set, length-append, length-take, length-drop, take-append-drop}
+use lib.ListN.{drop-of-length-le}
 use lib.Seq.{drop-cons, take-all, take-at, length-take-le}
 use borrow.Author.Tests.{lt-ltb, le-ltb}
 use mir.Syntax.{w8, w64}
@@ -120,6 +121,13 @@ word-turn n k xs i h l p =
 -- what fewer octets hold, more do
 pub word-most : (m n r : ℕ) → m ≤ n → r < 256 ^ m → r < 256 ^ n
 word-most m n r l h = lt-of-lt-of-le h (pow-le-pow-right {n = 256} (zero-lt-suc 255) {i = m} {j = n} l)
+
+-- however few octets there are
+pub word-any : (n : ℕ) (xs : List ℕ) → Octets xs → wordOf n xs < 256 ^ n
+unfolding wordOf
+word-any n xs o =
+    word-most (length (take n xs)) n (valOf (take n xs)) (rw length-take (omega arith))
+    (val-small (take n xs) (octets-take n xs o))
 
 -- while an octet is still to come there is room for it
 word-room : (n k r : ℕ) → 0 < k → n ≤ 8 → r < 256 ^ (n - k) → r < 256 ^ 7

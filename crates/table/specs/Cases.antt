@@ -23,7 +23,11 @@ use Rattle.table.specs.declared.Found.{Found}
 use Rattle.table.specs.declared.Found.the-variants.{At, Nothing}
 use Rattle.table.specs.Repeat.{repeatAt, repeat-is, repeatOf, foundAt, repeat-below}
 use Rattle.table.specs.Table.{Column, codeOf, rowAt, columnsAt, tableAt, columnsOf, tableOf}
-use Rattle.table.specs.Columns.{padded, tagsOf, bitsOf, formsOf, columnsIn, noColumns, kept, noTable, judgedTo, settled, tableIn, plainAt, oneMore, readTo, filledTo, agree, read-all, read-most, columns-long, columnAt, columns-snoc, tags-snoc, bits-snoc, forms-snoc, tags-long, bits-long, forms-long, padded-more}
+use Rattle.answers.specs.Padded.{padded, padded-long, padded-more}
+use Rattle.table.specs.Columns.{tagsOf, bitsOf, formsOf, columnsIn, noColumns, kept, noTable, judgedTo, settled}
+use Rattle.table.specs.Columns.{tableIn, plainAt, oneMore, readTo, filledTo, agree, read-all, read-most}
+use Rattle.table.specs.Columns.{columns-long, columnAt, columns-snoc, tags-snoc, bits-snoc, forms-snoc}
+use Rattle.table.specs.Columns.{tags-long, bits-long, forms-long}
 
 -- ---- judge_row
 
@@ -123,7 +127,7 @@ module _ (b : List ℕ) (n at i : ℕ) (ip : plainAt (n - i) (at + 8 * i) (drop 
       rw (← x, eT, eF, eK, ← y, add-zero i, columns-long i (drop at b))
 
 -- the arrays with one row more
-module _ (b : List ℕ) (n at i w : ℕ) (h : i < n) (k : n ≤ 128) where
+module _ (b : List ℕ) (n at i w : ℕ) (h : i < n) (k : n ≤ mostColumns) where
   row-there : columnsOf (i + 1) (drop at b) ≡ columnsOf i (drop at b) ++ (columnAt (drop (at + 8 * i) b) ∷ [])
   row-there = rw (add-one i) (columns-snoc i (drop at b) ∙ rw (drop-drop (8 * i) at b))
 
@@ -164,11 +168,12 @@ unfolding tableIn tableAt
 table-short b at v t l e q = rw (q, e, length-drop at b, lt-leb 4 (length b - at) l)
 
 module _ (b : List ℕ) (at n : ℕ) (l : 4 ≤ length b - at) (w : n ≡ wordOf 4 (drop at b)) where
-  pub table-many : (v : Verdict) (t : Table) → 128 < n → v ≡ refused manyColumns at → t ≡ noTable v → t ≡ tableIn at (drop at b)
+  pub table-many : (v : Verdict) (t : Table) → mostColumns < n → v ≡ refused manyColumns at → t ≡ noTable v
+      → t ≡ tableIn at (drop at b)
   unfolding tableIn tableAt
   table-many v t h e q = rw (q, e, length-drop at b, le-leb 4 (length b - at) l, ← w, lt-leb n mostColumns h)
 
-  module _ (h : n ≤ 128) where
+  module _ (h : n ≤ mostColumns) where
     xs : List ℕ
     xs = drop (at + 4) b
 
@@ -230,17 +235,15 @@ module _ (t : Table) (at : ℕ) (f : Found) (g : f ≡ repeatOf (take (t .column
 
 pub ruleset settles = (settle-repeat, settle-stop, settle-good)
 
--- the arrays' length
-pub padded-long : (xs : List ℕ) → length xs ≤ 128 → length (padded xs) ≡ 128
-padded-long xs h = length-append xs _ ∙ rw (length-replicate {A = ℕ} (128 - length xs) 0) (omega arith)
-
-module _ (t : Table) (n at : ℕ) (xs : List ℕ) (q : t ≡ filledTo n at xs) (h : t .columns .count ≤ n) (k : n ≤ 128) where
+-- the tags that were read stand in their array
+module _ (t : Table) (n at : ℕ) (xs : List ℕ) (q : t ≡ filledTo n at xs) (h : t .columns .count ≤ n)
+    (k : n ≤ mostColumns) where
   pub tags-hold : t .columns .count ≤ length (t .columns .tags)
   unfolding filledTo columnsIn
   tags-hold =
       let cs : List Column = columnsOf (readTo n at xs) xs in
       let m : readTo n at xs ≤ n = read-most n at xs in
       let l : length cs ≡ readTo n at xs = columns-long (readTo n at xs) xs in
-      let d : length (padded (tagsOf cs)) ≡ 128 = padded-long (tagsOf cs) (rw (tags-long cs) (omega arith)) in
+      let d : length (padded (tagsOf cs)) ≡ mostColumns = padded-long (tagsOf cs) (rw (tags-long cs) (omega arith)) in
       let e : t .columns .tags ≡ padded (tagsOf cs) = ap (λ (x : Table). x .columns .tags) q in
       rw e (rw d (omega arith))

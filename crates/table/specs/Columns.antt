@@ -6,11 +6,12 @@ use mathlib.Core.Path.{_≡_, refl, sym, ap, _∙_}
 use mathlib.Core.Bool.{Bool, true, false, not}
 use mathlib.Core.List.{List, [], _∷_, _++_, append-assoc}
 use lib.Dec.{leb}
-use lib.ListN.{length, take, drop, set, replicate, length-append, length-drop}
-use lib.Seq.{set-at, drop-drop, append-snoc, take-at}
+use lib.ListN.{length, take, drop, replicate}
+use lib.Seq.{drop-drop}
 use borrow.Author.Tests.{le-leb, leb-true, lt-leb}
 use Rattle.octets.specs.Word.{wordOf}
 use Rattle.answers.specs.Numbers.{cutShort, unknownType, repeatedTag, manyColumns, mostColumns}
+use Rattle.answers.specs.Padded.{padded}
 use Rattle.answers.specs.declared.Verdict.{Verdict}
 use Rattle.answers.specs.declared.Verdict.the-variants.{Clear as clear, Refused}
 use Rattle.answers.specs.Verdict.{refused, _then_, need, apart, unmet, no-clear, then-assoc}
@@ -19,10 +20,6 @@ use Rattle.table.specs.Repeat.{memb, repeatAt, repeat-is, repeatOf, foun
 use Rattle.table.specs.Table.{Column, codeOf, rowAt, columnsAt, tableAt, columnsOf, tableOf}
 use Rattle.table.specs.declared.Columns.{Columns}
 use Rattle.table.specs.declared.Table.{Table}
-
--- zeros behind, up to 128 in all
-abbrev pub padded : List ℕ → List ℕ
-padded xs = xs ++ replicate (128 - length xs) 0
 
 abbrev pub tagsOf : List Column → List ℕ
 tagsOf [] = []
@@ -42,7 +39,13 @@ unfoldable pub columnsIn : List Column → Columns
 columnsIn cs = record { count = length cs; tags = padded (tagsOf cs); flags = padded (bitsOf cs); forms = padded (formsOf cs) }
 
 abbrev pub noColumns : Columns
-noColumns = record { count = 0; tags = replicate 128 0; flags = replicate 128 0; forms = replicate 128 0 }
+noColumns =
+    record {
+      count = 0;
+      tags = replicate mostColumns 0;
+      flags = replicate mostColumns 0;
+      forms = replicate mostColumns 0;
+    }
 
 -- the columns where nothing was refused
 abbrev pub kept : Verdict → List Column → Columns
@@ -145,13 +148,6 @@ bits-long (c ∷ cs) = ap suc (bits-long cs)
 pub forms-long : (cs : List Column) → length (formsOf cs) ≡ length cs
 forms-long [] = refl
 forms-long (c ∷ cs) = ap suc (forms-long cs)
-
--- a store behind the last
-pub padded-more : (xs : List ℕ) (i v : ℕ) → length xs ≡ i → i < 128 → set (padded xs) i v ≡ padded (xs ++ (v ∷ []))
-padded-more xs i v e h =
-    let k : 128 - length xs ≡ suc (128 - suc i) = omega arith in
-    let l : length (xs ++ (v ∷ [])) ≡ suc i = length-append xs (v ∷ []) ∙ omega arith in
-    rw (k, l, append-snoc xs v (replicate (128 - suc i) 0)) (set-at xs 0 (replicate (128 - suc i) 0) v i e)
 
 -- no more rows are read than there are
 pub read-most : (n at : ℕ) (xs : List ℕ) → readTo n at xs ≤ n

@@ -8,6 +8,7 @@ use Prim.Native.Nat.{ℕ, zero, suc, _+_, _-_, _≤_, _<_}
 use native.Mathlib.Nat.{not-suc-le-zero, eq-or-lt-of-le, le-of-suc-le-suc}
 use native.Mathlib.Numerals.{add-one}
 use native.Mathlib.Omega.{arith}
+use Rattle.octets.specs.Cases.{split}
 
 -- the first of two that is there
 abbrev pub orElse : Option ℕ → Option ℕ → Option ℕ
@@ -66,3 +67,26 @@ first-holds p (suc n) i e = holds-case p n i (first p n) (p n) refl (first-holds
 pub first-none : (p : ℕ → Bool) (n : ℕ) → ((i : ℕ) → i < n → p i ≡ false) → first p n ≡ none
 first-none p zero h = refl
 first-none p (suc n) h = rw (first-none p n (λ i l. h i (omega arith)), h n (omega arith))
+
+-- and where nothing is found it holds of none
+else-none : (n : ℕ) (o : Option ℕ) (b : Bool) → orElse o (cond b (some n) none) ≡ none → (o ≡ none) × (b ≡ false)
+else-none n (some i) b e = let z : _≡_ {A = ℕ} 0 1 = cc in absurd (omega arith)
+else-none n none true e = let z : _≡_ {A = ℕ} 0 1 = cc in absurd (omega arith)
+else-none n none false e = (refl, refl)
+
+pub none-before : (p : ℕ → Bool) (n : ℕ) → first p n ≡ none → (i : ℕ) → i < n → p i ≡ false
+none-before p zero e i h = absurd (omega arith)
+none-before p (suc n) e i h =
+    let q = else-none n (first p n) (p n) e in
+    split i n (λ l. none-before p n (q .0) i l) (λ l. let z : i ≡ n = omega arith in rw z (q .1))
+
+-- nothing is found below what is found first
+pub first-before : (p : ℕ → Bool) (n k : ℕ) → first p n ≡ some k → first p k ≡ none
+first-before p zero k e = let z : _≡_ {A = ℕ} 0 1 = cc in absurd (omega arith)
+first-before p (suc n) k e = go (first p n) refl (p n) e (first-before p n k)
+  where
+    go : (o : Option ℕ) → first p n ≡ o → (b : Bool) → orElse o (cond b (some n) none) ≡ some k
+        → (first p n ≡ some k → first p k ≡ none) → first p k ≡ none
+    go (some i) q b e ih = ih (q ∙ e)
+    go none q true e ih = let z : n ≡ k = cc in rw (← z) q
+    go none q false e ih = let z : _≡_ {A = ℕ} 0 1 = cc in absurd (omega arith)

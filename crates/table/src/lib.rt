@@ -2,6 +2,7 @@
 // rows that were read are searched for a repeated tag, whose refusal comes first where there is one.
 mod repeat;
 
+use answers::MOST_COLUMNS;
 use answers::Verdict;
 use answers::refuse;
 use octets::word32;
@@ -9,6 +10,7 @@ pub use repeat::first_repeat;
 ghost use mathlib.Core.Path.{_≡_};
 ghost use Prim.Native.Nat.{_+_, _*_, _^_, _≤_, _<_};
 ghost use lib.ListN.{length, drop};
+ghost use Rattle.answers.specs.Numbers.{mostColumns};
 ghost use Rattle.table.specs.Table.{rowAt};
 ghost use Rattle.table.specs.Columns.{noColumns, noTable, filledTo, settled, tableIn};
 
@@ -21,9 +23,9 @@ pub enum Found {
 // For each column its tag, its two flag bits and the form of its values; zeros behind the last.
 pub struct Columns {
     pub count: usize,
-    pub tags: [u32; 128],
-    pub flags: [u32; 128],
-    pub forms: [u8; 128],
+    pub tags: [u32; MOST_COLUMNS],
+    pub flags: [u32; MOST_COLUMNS],
+    pub forms: [u8; MOST_COLUMNS],
 }
 
 // Where the verdict is a refusal there are no columns.
@@ -37,9 +39,9 @@ pub fn no_columns() -> Columns
 {
     Columns {
         count: 0,
-        tags: [0; 128],
-        flags: [0; 128],
-        forms: [0; 128],
+        tags: [0; MOST_COLUMNS],
+        flags: [0; MOST_COLUMNS],
+        forms: [0; MOST_COLUMNS],
     }
 }
 
@@ -62,7 +64,7 @@ fn judge_row(book: &[u8], at: usize) -> Verdict
     if left < 8 {
         return refuse(answers::CUT_SHORT, at + 4);
     }
-    if value::form_of(word32(book, at)) == 255 {
+    if value::form_of(word32(book, at)) == value::UNKNOWN {
         return refuse(answers::UNKNOWN_TYPE, at);
     }
     Verdict::Clear
@@ -70,13 +72,13 @@ fn judge_row(book: &[u8], at: usize) -> Verdict
 
 // The rows from `at` on, up to the first that is refused by itself.
 fn fill(book: &[u8], at: usize, n: usize) -> Table
-    requires { ⌜ (n ≤ 128) × (at ≤ length (now book)) ⌝ }
+    requires { ⌜ (n ≤ mostColumns) × (at ≤ length (now book)) ⌝ }
     ensures { λ r. ⌜ (r ≡ filledTo n at (drop at (now (book .entry)))) × (r .columns .count ≤ n)
         × (at + 8 * r .columns .count ≤ length (now (book .entry))) ⌝ }
 {
-    let mut tags = [0u32; 128];
-    let mut flags = [0u32; 128];
-    let mut forms = [0u8; 128];
+    let mut tags = [0u32; MOST_COLUMNS];
+    let mut flags = [0u32; MOST_COLUMNS];
+    let mut forms = [0u8; MOST_COLUMNS];
     let mut i = 0;
     while i < n {
         let p = at + 8 * i;
@@ -141,7 +143,7 @@ pub fn read_table(book: &[u8], at: usize) -> Table
         return no_table(refuse(answers::CUT_SHORT, at));
     }
     let n = word32(book, at) as usize;
-    if 128 < n {
+    if MOST_COLUMNS < n {
         return no_table(refuse(answers::MANY_COLUMNS, at));
     }
     settle(fill(book, at + 4, n), at + 4)

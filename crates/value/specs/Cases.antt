@@ -18,36 +18,36 @@ use Rattle.whole.specs.declared.Number.the-variants.{Is, Broken as NoNumber}
 use Rattle.whole.specs.Number.{numberOf as wholeOf}
 use Rattle.text.specs.Narrow.{narrowOf}
 use Rattle.text.specs.Utf8.{textOf}
-use Rattle.value.specs.Types.{Kind, nothing, number, truth, narrow, text, binary, Form, one, many, unknown, kindAt, formAt, Row, types, formIn, numberOf}
+use Rattle.value.specs.Types.{Kind, number, truth, narrow, text, binary, kindNumber, listForm, formsEnd}
+use Rattle.value.specs.Types.{unknownForm, kindAt, formAt, Row, types, formIn, numberOf}
 use Rattle.value.specs.Value.{counted, numericOf, truthOf, binaryOf, elementOf, listFrom, listOf, valueOf}
 use Rattle.value.specs.Within.{element-within}
 
--- ---- the table, as two lists side by side
+-- ---- the table, as the two arrays of the code
+
+abbrev codesIn : List Row → List ℕ
+codesIn [] = []
+codesIn (r ∷ rs) = r .code ∷ codesIn rs
+
+abbrev formsIn : List Row → List ℕ
+formsIn [] = []
+formsIn (r ∷ rs) = r .form ∷ formsIn rs
 
 abbrev pub codes : List ℕ
-codes = 3 ∷ 11 ∷ 13 ∷ 30 ∷ 31 ∷ 258 ∷ 4099 ∷ 4126 ∷ 4127 ∷ 4354 ∷ []
+codes = codesIn types
 
 abbrev pub forms : List ℕ
-forms = 1 ∷ 2 ∷ 0 ∷ 3 ∷ 4 ∷ 5 ∷ 9 ∷ 11 ∷ 12 ∷ 13 ∷ []
+forms = formsIn types
 
-beside : List ℕ → List ℕ → List Row
-beside [] fs = []
-beside (c ∷ cs) [] = []
-beside (c ∷ cs) (f ∷ fs) = record { code = c; form = f } ∷ beside cs fs
+rows-next : (rs : List Row) (i : ℕ) → i < length (codesIn rs)
+    → drop i rs ≡ record { code = getD (codesIn rs) i 0; form = getD (formsIn rs) i 0 } ∷ drop (suc i) rs
+rows-next [] i h = absurd (omega arith)
+rows-next (r ∷ rs) zero h = refl
+rows-next (r ∷ rs) (suc i) h = rows-next rs i (omega arith)
 
-beside-next : (cs fs : List ℕ) (i : ℕ) → i < length cs → i < length fs → drop i (beside cs fs) ≡ record { code = getD cs i 0; form = getD fs i 0 } ∷ drop (suc i) (beside cs fs)
-unfolding beside
-beside-next [] fs i h k = absurd (omega arith)
-beside-next (c ∷ cs) [] i h k = absurd (omega arith)
-beside-next (c ∷ cs) (f ∷ fs) zero h k = refl
-beside-next (c ∷ cs) (f ∷ fs) (suc i) h k = beside-next cs fs i (omega arith) (omega arith)
-
-types-are : types ≡ beside codes forms
-unfolding types beside
-types-are = refl
-
-types-next : (i : ℕ) → i < 10 → drop i types ≡ record { code = getD codes i 0; form = getD forms i 0 } ∷ drop (suc i) types
-types-next i h = rw types-are (beside-next codes forms i h h)
+types-next : (i : ℕ) → i < 10
+    → drop i types ≡ record { code = getD codes i 0; form = getD forms i 0 } ∷ drop (suc i) types
+types-next i h = rows-next types i h
 
 module _ (code i : ℕ) (inv : formIn code (drop i types) ≡ numberOf code) where
   pub type-here : i < 10 → getD codes i 0 ≡ code → getD forms i 0 ≡ numberOf code
@@ -58,8 +58,8 @@ module _ (code i : ℕ) (inv : formIn code (drop i types) ≡ numberOf code) whe
   unfolding formIn
   type-next h e = rw add-one (rw (types-next i h, ne-eqb (getD codes i 0) code e) at inv)
 
-  pub type-none : 10 ≤ i → 255 ≡ numberOf code
-  unfolding formIn types
+  pub type-none : 10 ≤ i → unknownForm ≡ numberOf code
+  unfolding formIn
   type-none h = rw (drop-of-length-le types {i = i} h) at inv
 
 pub type-start : (code : ℕ) → formIn code types ≡ numberOf code
@@ -109,34 +109,44 @@ module _ (r : Number) (s : List ℕ) where
     unfolding binaryOf
     binary-short h i = rw (← q, e) (simp (le-ltb n 1 h, lt-leb n (length s - w) i))
 
-pub ruleset singles = (numeric-is, numeric-no, truth-none, truth-is, truth-no, binary-no, binary-none, binary-is, binary-short)
+pub ruleset singles =
+    (numeric-is, numeric-no, truth-none, truth-is, truth-no, binary-no, binary-none, binary-is, binary-short)
 
 -- ---- an element, by the number of its kind
 
 module _ (k : ℕ) {r : Walk} (s : List ℕ) where
-  pub element-number : k ≡ 1 → r ≡ numericOf s → r ≡ elementOf (kindAt k) s
+  pub element-number : k ≡ kindNumber number → r ≡ numericOf s → r ≡ elementOf (kindAt k) s
   unfolding elementOf
   element-number e q = rw e q
 
-  pub element-truth : k ≡ 2 → r ≡ truthOf s → r ≡ elementOf (kindAt k) s
+  pub element-truth : k ≡ kindNumber truth → r ≡ truthOf s → r ≡ elementOf (kindAt k) s
   unfolding elementOf
   element-truth e q = rw e q
 
-  pub element-narrow : k ≡ 3 → r ≡ narrowOf s → r ≡ elementOf (kindAt k) s
+  pub element-narrow : k ≡ kindNumber narrow → r ≡ narrowOf s → r ≡ elementOf (kindAt k) s
   unfolding elementOf
   element-narrow e q = rw e q
 
-  pub element-text : k ≡ 4 → r ≡ textOf s → r ≡ elementOf (kindAt k) s
+  pub element-text : k ≡ kindNumber text → r ≡ textOf s → r ≡ elementOf (kindAt k) s
   unfolding elementOf
   element-text e q = rw e q
 
-  pub element-binary : k ≡ 5 → r ≡ binaryOf s → r ≡ elementOf (kindAt k) s
+  pub element-binary : k ≡ kindNumber binary → r ≡ binaryOf s → r ≡ elementOf (kindAt k) s
   unfolding elementOf
   element-binary e q = rw e q
 
-pub element-none : (k : ℕ) (s : List ℕ) → (k ≡ 1 → ⊥) → (k ≡ 2 → ⊥) → (k ≡ 3 → ⊥) → (k ≡ 4 → ⊥) → (k ≡ 5 → ⊥) → broken ≡ elementOf (kindAt k) s
+pub element-none : (k : ℕ) (s : List ℕ) → (k ≡ kindNumber number → ⊥) → (k ≡ kindNumber truth → ⊥)
+    → (k ≡ kindNumber narrow → ⊥)
+    → (k ≡ kindNumber text → ⊥) → (k ≡ kindNumber binary → ⊥) → broken ≡ elementOf (kindAt k) s
 unfolding elementOf
-element-none k s h₁ h₂ h₃ h₄ h₅ = simp (ne-eqb k 1 h₁, ne-eqb k 2 h₂, ne-eqb k 3 h₃, ne-eqb k 4 h₄, ne-eqb k 5 h₅)
+element-none k s h₁ h₂ h₃ h₄ h₅ =
+    simp (
+      ne-eqb k (kindNumber number) h₁,
+      ne-eqb k (kindNumber truth) h₂,
+      ne-eqb k (kindNumber narrow) h₃,
+      ne-eqb k (kindNumber text) h₄,
+      ne-eqb k (kindNumber binary) h₅,
+    )
 
 pub ruleset elements = (element-number, element-truth, element-narrow, element-text, element-binary, element-none)
 
@@ -156,7 +166,8 @@ module _ (k : Kind) (r : Number) (s : List ℕ) where
     unfolding listOf
     list-start h = rw (← q, e) (simp (le-ltb n 1 h))
 
-list-step : (k : Kind) (n i : ℕ) (xs : List ℕ) → 0 < n → listFrom k n i xs ≡ onto (elementOf k xs) (λ w. listFrom k (n - 1) (i + w) (drop w xs))
+list-step : (k : Kind) (n i : ℕ) (xs : List ℕ) → 0 < n
+    → listFrom k n i xs ≡ onto (elementOf k xs) (λ w. listFrom k (n - 1) (i + w) (drop w xs))
 unfolding listFrom
 list-step k zero i xs h = absurd (omega arith)
 list-step k (suc n) i xs h = let e : suc n - 1 ≡ n = omega arith in simp e
@@ -177,7 +188,8 @@ module _ (k : Kind) (s : List ℕ) (left i : ℕ) (inv : listFrom k left i (drop
         let z : elementOf k (drop i s) ≡ Ends w = rw rest-of at (sym q) ∙ e in
         simp (list-step k left i (drop i s) h, z, drop-drop) at inv
 
-module _ (k : Kind) (s : List ℕ) (i : ℕ) (r : Walk) (q : r ≡ elementOf k (take (length s - i) (drop i s))) (h : i ≤ length s) (w : ℕ) (e : r ≡ Ends w) where
+module _ (k : Kind) (s : List ℕ) (i : ℕ) (r : Walk) (q : r ≡ elementOf k (take (length s - i) (drop i s)))
+    (h : i ≤ length s) (w : ℕ) (e : r ≡ Ends w) where
   pub list-in : i + w ≤ length s
   list-in =
       let z : elementOf k (drop i s) ≡ Ends w = rw rest-of at (sym q) ∙ e in
@@ -191,16 +203,16 @@ pub ruleset lists = (list-no, list-none, list-start, list-end, list-broken, list
 -- ---- a value, by the number of its form
 
 module _ (f : ℕ) {r : Walk} (s : List ℕ) where
-  pub value-single : f < 8 → r ≡ elementOf (kindAt f) s → r ≡ valueOf (formAt f) s
+  pub value-single : f < listForm → r ≡ elementOf (kindAt f) s → r ≡ valueOf (formAt f) s
   unfolding formAt valueOf
-  value-single h q = rw (lt-ltb f 8 h) q
+  value-single h q = rw (lt-ltb f listForm h) q
 
-  pub value-list : 8 ≤ f → f < 16 → r ≡ listOf (kindAt (f - 8)) s → r ≡ valueOf (formAt f) s
+  pub value-list : listForm ≤ f → f < formsEnd → r ≡ listOf (kindAt (f - listForm)) s → r ≡ valueOf (formAt f) s
   unfolding formAt valueOf
-  value-list h i q = rw (le-ltb f 8 h, lt-ltb f 16 i) q
+  value-list h i q = rw (le-ltb f listForm h, lt-ltb f formsEnd i) q
 
-pub value-none : (f : ℕ) (s : List ℕ) → 8 ≤ f → 16 ≤ f → broken ≡ valueOf (formAt f) s
+pub value-none : (f : ℕ) (s : List ℕ) → listForm ≤ f → formsEnd ≤ f → broken ≡ valueOf (formAt f) s
 unfolding formAt valueOf
-value-none f s h i = rw (le-ltb f 8 h, le-ltb f 16 i)
+value-none f s h i = rw (le-ltb f listForm h, le-ltb f formsEnd i)
 
 pub ruleset values = (value-single, value-list, value-none)

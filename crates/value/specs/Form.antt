@@ -3,15 +3,18 @@
 use Prim.Native.Nat.{ℕ, _^_, _≤_, _<_}
 use native.Mathlib.Omega.{arith}
 use mathlib.Core.Path.{_≡_, refl, sym, ap, _∙_}
-use mathlib.Core.List.{List, _++_}
+use mathlib.Core.List.{List, [], _∷_, _++_}
 use lib.ListN.{length, take, drop}
 use lib.Seq.{take-at, drop-at}
 use Rattle.octets.specs.Octets.{Octets}
 use Rattle.answers.specs.declared.Walk.{Walk}
 use Rattle.answers.specs.declared.Walk.the-variants.{Ends}
-use Rattle.answers.specs.Walk.{no-end}
-use Rattle.value.specs.Types.{Kind, Form, one, many, unknown}
-use Rattle.value.specs.Value.{valueOf}
+use Rattle.answers.specs.Walk.{broken, no-end}
+use Rattle.whole.specs.Number.{numberOf}
+use Rattle.text.specs.Narrow.{narrowFrom}
+use Rattle.text.specs.Utf8.{textFrom}
+use Rattle.value.specs.Types.{Kind, nothing, number, truth, narrow, text, binary, Form, one, many, unknown}
+use Rattle.value.specs.Value.{numericOf, truthOf, binaryOf, elementOf, listOf, valueOf}
 use Rattle.value.specs.Encode.{Item, kindOf, Valid, Valids, encodeItem, encodeList, count, item-back, list-back, item-sound, list-sound}
 
 pub record One (k : Kind) (v : List ℕ) : Type 0 where
@@ -67,3 +70,19 @@ value-one f v w r s h i e =
     let z = take-at v r (length v) refl in
     let y = drop-at v r (length v) refl in
     (sym z ∙ ap (take (length v)) e ∙ take-at w s (length v) l, sym y ∙ ap (drop (length v)) e ∙ drop-at w s (length v) l)
+
+no-value : (f : Form) → valueOf f [] ≡ broken
+unfolding valueOf elementOf numericOf truthOf binaryOf listOf numberOf narrowFrom textFrom
+no-value (one nothing) = refl
+no-value (one number) = refl
+no-value (one truth) = refl
+no-value (one narrow) = refl
+no-value (one text) = refl
+no-value (one binary) = refl
+no-value (many k) = refl
+no-value unknown = refl
+
+-- no value is empty
+pub value-some : (f : Form) (v : List ℕ) → IsValue f v → 1 ≤ length v
+value-some f [] h = no-end (sym (no-value f) ∙ value-back f [] h [])
+value-some f (x ∷ v) h = omega arith

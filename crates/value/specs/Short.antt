@@ -11,14 +11,14 @@ use Rattle.octets.specs.Cases.{taken}
 use Rattle.octets.specs.Octets.{octetAt}
 use Rattle.answers.specs.declared.Walk.the-variants.{Ends}
 use Rattle.whole.specs.Number.{numberOf}
-use Rattle.value.specs.Types.{formAt}
+use Rattle.value.specs.Types.{number, truth, kindNumber, formAt}
 use Rattle.value.specs.Value.{numericOf, truthOf, elementOf, valueOf}
 
 unfoldable pub shortOf : ℕ → List ℕ → Bool
 shortOf form xs =
     cond (ltb (length xs) 1) false
-    (cond (eqb form 2) (ltb (octetAt xs 0) 2)
-    (cond (eqb form 1) (ltb (octetAt xs 0) 128)
+    (cond (eqb form (kindNumber truth)) (ltb (octetAt xs 0) 2)
+    (cond (eqb form (kindNumber number)) (ltb (octetAt xs 0) 128)
     false))
 
 none-such : {X : Type 0} → false ≡ true → X
@@ -30,8 +30,8 @@ pub short-is : (form : ℕ) (xs : List ℕ) → shortOf form xs ≡ true → val
 unfolding shortOf formAt valueOf elementOf truthOf numericOf numberOf
 short-is form xs e =
     taken (ltb (length xs) 1) _ _ _ e (λ t q. none-such q)
-    (λ t q. taken (eqb form 2) _ _ _ q
-    (λ u r. rw (eqb-true form 2 u, t, r))
-    (λ u r. taken (eqb form 1) _ _ _ r
-    (λ v s. rw (eqb-true form 1 v, t, s))
+    (λ t q. taken (eqb form (kindNumber truth)) _ _ _ q
+    (λ u r. rw (eqb-true form (kindNumber truth) u, t, r))
+    (λ u r. taken (eqb form (kindNumber number)) _ _ _ r
+    (λ v s. rw (eqb-true form (kindNumber number) v, t, s))
     (λ v s. none-such s)))

@@ -22,22 +22,33 @@ kindNumber narrow = 3
 kindNumber text = 4
 kindNumber binary = 5
 
+-- a list's form is as much more than its elements' kind
+abbrev pub listForm : ℕ
+listForm = 8
+
+-- every form of a type is below
+abbrev pub formsEnd : ℕ
+formsEnd = 16
+
+abbrev pub unknownForm : ℕ
+unknownForm = 255
+
 abbrev pub formNumber : Form → ℕ
 formNumber (one k) = kindNumber k
-formNumber (many k) = 8 + kindNumber k
-formNumber unknown = 255
+formNumber (many k) = listForm + kindNumber k
+formNumber unknown = unknownForm
 
 abbrev pub kindAt : ℕ → Kind
 kindAt n =
-    cond (eqb n 1) number
-    (cond (eqb n 2) truth
-    (cond (eqb n 3) narrow
-    (cond (eqb n 4) text
-    (cond (eqb n 5) binary
+    cond (eqb n (kindNumber number)) number
+    (cond (eqb n (kindNumber truth)) truth
+    (cond (eqb n (kindNumber narrow)) narrow
+    (cond (eqb n (kindNumber text)) text
+    (cond (eqb n (kindNumber binary)) binary
     nothing))))
 
 unfoldable pub formAt : ℕ → Form
-formAt n = cond (ltb n 8) (one (kindAt n)) (cond (ltb n 16) (many (kindAt (n - 8))) unknown)
+formAt n = cond (ltb n listForm) (one (kindAt n)) (cond (ltb n formsEnd) (many (kindAt (n - listForm))) unknown)
 
 pub record Row : Type 0 where
   pub code : ℕ
@@ -46,7 +57,7 @@ pub record Row : Type 0 where
 abbrev pub row : ℕ → Form → Row
 row code form = record { code = code; form = formNumber form }
 
-unfoldable pub types : List Row
+abbrev pub types : List Row
 types =
     row 0x0003 (one number)
     ∷ row 0x000B (one truth)
@@ -62,7 +73,7 @@ types =
 
 -- the form beside a type code
 unfoldable pub formIn : ℕ → List Row → ℕ
-formIn code [] = formNumber unknown
+formIn code [] = unknownForm
 formIn code (r ∷ rs) = cond (eqb (r .code) code) (r .form) (formIn code rs)
 
 unfoldable pub numberOf : ℕ → ℕ
@@ -73,4 +84,4 @@ formOf code = formAt (numberOf code)
 
 -- the code is one of the ten
 unfoldable pub isType : ℕ → Bool
-isType code = not (eqb (numberOf code) (formNumber unknown))
+isType code = not (eqb (numberOf code) unknownForm)

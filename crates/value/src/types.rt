@@ -1,8 +1,29 @@
-// A tag's low 16 bits are its type (2.9.2). The form of its values is a number: 0 nothing, 1 a whole number, 2 yes or no, 3 a narrow string,
-// 4 a string of UTF-8, 5 octets with their number; 8 more for a list of these; 255 where the type isn't among the ten.
+// A tag's low 16 bits are its type (2.9.2). The form of its values is a number: that of a kind, or LIST more for a list
+// of the kind.
 ghost use mathlib.Core.Path.{_≡_};
 ghost use Prim.Native.Nat.{_%_};
 ghost use Rattle.value.specs.Types.{numberOf};
+
+pub const NOTHING: u8 = 0;
+
+pub const NUMBER: u8 = 1;
+
+// Yes or no.
+pub const TRUTH: u8 = 2;
+
+pub const NARROW: u8 = 3;
+
+pub const TEXT: u8 = 4;
+
+pub const BINARY: u8 = 5;
+
+pub const LIST: u8 = 8;
+
+// Every form of a type is below.
+pub const FORMS: u8 = 16;
+
+// The form where the type isn't among the ten.
+pub const UNKNOWN: u8 = 255;
 
 const TYPES: [u16; 10] = [
     0x0003,
@@ -17,7 +38,18 @@ const TYPES: [u16; 10] = [
     0x1102,
 ];
 
-const FORMS: [u8; 10] = [1, 2, 0, 3, 4, 5, 9, 11, 12, 13];
+const FORM_OF_TYPE: [u8; 10] = [
+    NUMBER,
+    TRUTH,
+    NOTHING,
+    NARROW,
+    TEXT,
+    BINARY,
+    LIST + NUMBER,
+    LIST + NARROW,
+    LIST + TEXT,
+    LIST + BINARY,
+];
 
 fn form_of_type(code: u16) -> u8
     ensures { λ r. ⌜ r ≡ numberOf code ⌝ }
@@ -25,11 +57,11 @@ fn form_of_type(code: u16) -> u8
     let mut i = 0;
     while i < 10 {
         if TYPES[i] == code {
-            return FORMS[i];
+            return FORM_OF_TYPE[i];
         }
         i += 1;
     }
-    255
+    UNKNOWN
 }
 
 // The form of a tag's values.

@@ -1,4 +1,11 @@
 // The walk over a value of each form.
+use crate::types::BINARY;
+use crate::types::FORMS;
+use crate::types::LIST;
+use crate::types::NARROW;
+use crate::types::NUMBER;
+use crate::types::TEXT;
+use crate::types::TRUTH;
 use answers::Walk;
 use whole::Number;
 ghost use mathlib.Core.Path.{_≡_};
@@ -49,11 +56,11 @@ fn element(kind: u8, s: &[u8]) -> Walk
     ensures { λ r. ⌜ r ≡ elementOf (kindAt kind) (now (s .entry)) ⌝ }
 {
     match kind {
-        1 => numeric(s),
-        2 => truth(s),
-        3 => text::narrow_string(s),
-        4 => text::utf8_string(s),
-        5 => binary(s),
+        NUMBER => numeric(s),
+        TRUTH => truth(s),
+        NARROW => text::narrow_string(s),
+        TEXT => text::utf8_string(s),
+        BINARY => binary(s),
         _ => Walk::Broken(0),
     }
 }
@@ -87,10 +94,10 @@ pub fn is_short(form: u8, s: &[u8]) -> bool
         return false;
     }
     let a = s[0];
-    if form == 2 {
+    if form == TRUTH {
         return a < 2;
     }
-    if form == 1 {
+    if form == NUMBER {
         return a < 128;
     }
     false
@@ -100,11 +107,11 @@ pub fn is_short(form: u8, s: &[u8]) -> bool
 pub fn walk_value(form: u8, s: &[u8]) -> Walk
     ensures { λ r. ⌜ r ≡ valueOf (formAt form) (now (s .entry)) ⌝ }
 {
-    if form < 8 {
+    if form < LIST {
         return element(form, s);
     }
-    if form < 16 {
-        return list(form - 8, s);
+    if form < FORMS {
+        return list(form - LIST, s);
     }
     Walk::Broken(0)
 }

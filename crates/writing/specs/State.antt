@@ -6,7 +6,7 @@ use mathlib.Core.Path.{_≡_, refl, sym, _∙_}
 use mathlib.Core.Bool.{Bool, true, false, cond}
 use lib.Dec.{ltb, leb, eqb}
 use borrow.Author.Tests.{lt-ltb, le-ltb, le-leb, lt-leb, eq-eqb, ne-eqb, ltb-false, leb-true, eqb-true, eqb-false}
-use Rattle.answers.specs.Numbers.{breaksRule, noRoom, mostOctets}
+use Rattle.answers.specs.Numbers.{breaksRule, noRoom, mostOctets, mostColumns, mostOpened}
 use Rattle.answers.specs.declared.Verdict.{Verdict}
 use Rattle.answers.specs.declared.Verdict.the-variants.{Clear as clear, Refused}
 use Rattle.answers.specs.Verdict.{refused, _then_, need, apart, unmet}
@@ -32,6 +32,13 @@ settled (Refused r) before behind = refusedWith r before
 
 -- ---- the states
 
+-- the stages of a writing
+abbrev pub inProgress : ℕ
+inProgress = 0
+
+abbrev pub finishedStage : ℕ
+finishedStage = 1
+
 -- where the tables end
 abbrev pub tablesEnd : Writing → ℕ
 tablesEnd st = 24 + 8 * (st .header + st .address)
@@ -43,13 +50,13 @@ columnsOf st k = cond (eqb k 1) (st .header) (st .address)
 -- calls can leave it in a buffer of n octets, as far as its tables and its lengths go
 unfoldable pub saneOf : Writing → ℕ → Bool
 saneOf st n =
-    cond (eqb (st .stage) 0)
+    cond (eqb (st .stage) inProgress)
     (cond (ltb n (st .written)) false
     (cond (ltb mostOctets (st .written)) false
-    (cond (ltb 128 (st .header)) false
-    (cond (ltb 128 (st .address)) false
+    (cond (ltb mostColumns (st .header)) false
+    (cond (ltb mostColumns (st .address)) false
     (cond (ltb (st .written) (tablesEnd st)) false
-    (cond (ltb 65536 (st .opened)) false true)))))) false
+    (cond (ltb mostOpened (st .opened)) false true)))))) false
 
 -- no record is open
 unfoldable pub idleOf : Writing → ℕ → Bool
@@ -91,18 +98,18 @@ room-in w n k e =
     record { limit = leb-true (w + k) mostOctets (unmet _ breaksRule 0 (c .0)); buffer = leb-true (w + k) n (unmet _ noRoom 0 (c .1)) }
 
 pub record Sane (st : Writing) (n : ℕ) : Type 0 where
-  pub live : st .stage ≡ 0
+  pub live : st .stage ≡ inProgress
   pub in-buffer : st .written ≤ n
   pub in-limit : st .written ≤ mostOctets
-  pub heads : st .header ≤ 128
-  pub rows : st .address ≤ 128
+  pub heads : st .header ≤ mostColumns
+  pub rows : st .address ≤ mostColumns
   pub behind : 24 + 8 * (st .header + st .address) ≤ st .written
-  pub records : st .opened ≤ 65536
+  pub records : st .opened ≤ mostOpened
 
 pub sane-in : (st : Writing) (n : ℕ) → saneOf st n ≡ true → Sane st n
 unfolding saneOf
 sane-in st n e =
-    let p₁ = both-true (eqb (st .stage) 0) _ e in
+    let p₁ = both-true (eqb (st .stage) inProgress) _ e in
     let p₂ = passed _ _ (p₁ .1) in
     let p₃ = passed _ _ (p₂ .1) in
     let p₄ = passed _ _ (p₃ .1) in
@@ -110,7 +117,7 @@ sane-in st n e =
     let p₆ = passed _ _ (p₅ .1) in
     let p₇ = passed _ true (p₆ .1) in
     record {
-      live = eqb-true (st .stage) 0 (p₁ .0);
+      live = eqb-true (st .stage) inProgress (p₁ .0);
       in-buffer = ltb-false _ _ (p₂ .0);
       in-limit = ltb-false _ _ (p₃ .0);
       heads = ltb-false _ _ (p₄ .0);
@@ -125,17 +132,17 @@ idle-in st n e = sane-in st n (both-true (eqb (st .start) 0) _ e .1)
 
 pub record Within (st : Writing) (n : ℕ) : Type 0 where
   pub sane : Sane st n
-  pub columns : columnsOf st (st .opened) ≤ 128
+  pub columns : columnsOf st (st .opened) ≤ mostColumns
   pub started : tablesEnd st ≤ st .start
   pub framed : st .start + 4 + room (columnsOf st (st .opened)) ≤ st .written
   pub reached : st .next ≤ columnsOf st (st .opened)
   pub some : 1 ≤ st .opened
 
-columns-small : (t : Bool) (h a : ℕ) → h ≤ 128 → a ≤ 128 → cond t h a ≤ 128
+columns-small : (t : Bool) (h a : ℕ) → h ≤ mostColumns → a ≤ mostColumns → cond t h a ≤ mostColumns
 columns-small true h a p q = p
 columns-small false h a p q = q
 
-pub columns-in : (st : Writing) (n k : ℕ) → Sane st n → columnsOf st k ≤ 128
+pub columns-in : (st : Writing) (n k : ℕ) → Sane st n → columnsOf st k ≤ mostColumns
 columns-in st n k s = columns-small (eqb k 1) _ _ (s .heads) (s .rows)
 
 pub within-in : (st : Writing) (n : ℕ) → withinOf st n ≡ true → Within st n
@@ -185,7 +192,8 @@ module _ (st : Writing) (n : ℕ) (s : Bool) (e : s ≡ saneOf st n) where
   unfolding withinOf
   within-by z k b q r = rw (← e, z, ← q) r
 
-  pub within-asks : s ≡ true → (k : ℕ) → k ≡ columnsOf st (st .opened) → (st .header ≤ 128) × (st .address ≤ 128) × (k ≤ 128)
+  pub within-asks : s ≡ true → (k : ℕ) → k ≡ columnsOf st (st .opened)
+      → (st .header ≤ mostColumns) × (st .address ≤ mostColumns) × (k ≤ mostColumns)
   within-asks z k q =
       let a = sane-in st n (sym e ∙ z) in
       (a .heads, a .rows, rw q (columns-in st n (st .opened) a))
@@ -235,5 +243,6 @@ module _ (st : Writing) (k m : ℕ) (e : m ≡ room k) (a : st .start ≡ 0 → 
 
 pub ruleset frames = (framed-short, framed-passed, framed-good)
 
-pub within-few : (st : Writing) (n : ℕ) (b : Bool) → b ≡ withinOf st n → b ≡ true → (st .header ≤ 128) × (st .address ≤ 128)
+pub within-few : (st : Writing) (n : ℕ) (b : Bool) → b ≡ withinOf st n → b ≡ true
+    → (st .header ≤ mostColumns) × (st .address ≤ mostColumns)
 within-few st n b e z = let w = within-in st n (sym e ∙ z) in (w .sane .heads, w .sane .rows)

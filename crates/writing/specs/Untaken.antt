@@ -6,19 +6,19 @@ use mathlib.Core.Bool.{Bool, true, false, cond}
 use lib.Dec.{eqb}
 use borrow.Author.Tests.{lt-ltb, ne-eqb}
 use Rattle.writing.specs.declared.Writing.{Writing}
-use Rattle.writing.specs.State.{saneOf, idleOf, withinOf}
+use Rattle.writing.specs.State.{saneOf, idleOf, withinOf, inProgress}
 
 shut : (t x : Bool) → x ≡ false → cond t x false ≡ false
 shut true x e = e
 shut false x e = refl
 
-pub ended-untaken : (st : Writing) (n : ℕ) → (st .stage ≡ 0 → ⊥) → saneOf st n ≡ false
+pub ended-untaken : (st : Writing) (n : ℕ) → (st .stage ≡ inProgress → ⊥) → saneOf st n ≡ false
 unfolding saneOf
-ended-untaken st n h = rw (ne-eqb (st .stage) 0 h)
+ended-untaken st n h = rw (ne-eqb (st .stage) inProgress h)
 
 pub short-untaken : (st : Writing) (n : ℕ) → n < st .written → saneOf st n ≡ false
 unfolding saneOf
-short-untaken st n h = rw (lt-ltb n (st .written) h) (shut (eqb (st .stage) 0) false refl)
+short-untaken st n h = rw (lt-ltb n (st .written) h) (shut (eqb (st .stage) inProgress) false refl)
 
 module _ (st : Writing) (n : ℕ) (e : saneOf st n ≡ false) where
   pub untaken-idle : idleOf st n ≡ false

@@ -7,8 +7,15 @@ use octets::word32;
 use table::Found;
 ghost use mathlib.Core.Path.{_≡_};
 ghost use Prim.Native.Nat.{_+_, _-_, _*_, _≤_};
-ghost use Rattle.writing.specs.State.{columnsOf, saneOf, idleOf, framedOf, withinOf, roomAt, settled, refusedWith, doneWith};
+ghost use Rattle.answers.specs.Numbers.{mostOctets, mostColumns};
+ghost use Rattle.writing.specs.State.{columnsOf, saneOf, idleOf, framedOf, withinOf, roomAt, settled};
+ghost use Rattle.writing.specs.State.{refusedWith, doneWith};
 ghost use Rattle.writing.specs.Column.{rowFrom, columnFor};
+
+// The stages of a writing.
+pub const IN_PROGRESS: u8 = 0;
+
+pub const FINISHED: u8 = 1;
 
 pub struct Writing {
     // the octets written so far
@@ -25,7 +32,7 @@ pub struct Writing {
     // the elements due of an unfinished list, and the form of its type
     pub left: usize,
     pub form: u8,
-    // 0 in progress, 1 finished
+    // in progress or finished
     pub stage: u8,
 }
 
@@ -68,7 +75,7 @@ pub fn columns_of(st: Writing, k: usize) -> usize
 fn sane(st: Writing, n: usize) -> bool
     ensures { λ r. ⌜ r ≡ saneOf st n ⌝ }
 {
-    if st.stage != 0 {
+    if st.stage != IN_PROGRESS {
         return false;
     }
     if n < st.written {
@@ -77,16 +84,16 @@ fn sane(st: Writing, n: usize) -> bool
     if answers::MOST_OCTETS < st.written {
         return false;
     }
-    if 128 < st.header {
+    if answers::MOST_COLUMNS < st.header {
         return false;
     }
-    if 128 < st.address {
+    if answers::MOST_COLUMNS < st.address {
         return false;
     }
     if st.written < 24 + 8 * (st.header + st.address) {
         return false;
     }
-    if 65536 < st.opened {
+    if answers::MOST_OPENED < st.opened {
         return false;
     }
     true
@@ -104,7 +111,7 @@ pub fn idle(st: Writing, n: usize) -> bool
 
 // Whether a record of k columns is open, and stands where one can.
 fn framed(st: Writing, k: usize) -> bool
-    requires { ⌜ (st .header ≤ 128) × (st .address ≤ 128) × (k ≤ 128) ⌝ }
+    requires { ⌜ (st .header ≤ mostColumns) × (st .address ≤ mostColumns) × (k ≤ mostColumns) ⌝ }
     ensures { λ r. ⌜ r ≡ framedOf st k ⌝ }
 {
     if st.start == 0 {
@@ -160,7 +167,7 @@ pub fn judge_room(written: usize, n: usize, k: usize) -> Verdict
 
 // The row with a whole tag, of n rows from row `from` on; row 0 stands at `base`.
 fn find_row(buf: &[u8], base: usize, from: usize, n: usize, tag: u32) -> Found
-    requires { ⌜ (base ≤ 65536) × (n ≤ 128) ⌝ }
+    requires { ⌜ (base ≤ mostOctets) × (n ≤ mostColumns) ⌝ }
     ensures { λ r. ⌜ r ≡ rowFrom (now (buf .entry)) base tag (n - from) from ⌝ }
 {
     let mut i = from;

@@ -1,5 +1,6 @@
 use Rattle.table.specs.Cases.{fill-start, read-start, fill-stop, fill-next, read-next, row-in, fill-end, tags-next, flags-next, forms-next}
-use Rattle.table.specs.Columns.{padded, tagsOf, bitsOf, formsOf, plainAt, readTo}
+use Rattle.answers.specs.Padded.{padded}
+use Rattle.table.specs.Columns.{tagsOf, bitsOf, formsOf, plainAt, readTo}
 use Rattle.table.specs.Table.{columnsOf}
 use lib.ListN.{length, drop}
 use Prim.Native.Nat.{_+_, _*_, _-_, _≤_}
