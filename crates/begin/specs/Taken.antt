@@ -1,4 +1,5 @@
--- The tables that begin takes are sound, and every sound pair of tables is taken. What begin writes of them has its length.
+-- The tables that begin takes are sound, and every sound pair of tables is taken. What begin writes of them has its
+-- length.
 use Prim.Native.Nat.{ℕ, suc, _+_, _*_, _%_, _^_, _≤_, _<_}
 use native.Mathlib.Omega.{arith}
 use mathlib.Core.Path.{_≡_, refl, ap}
@@ -42,7 +43,8 @@ unfolding startOctets
 start-octets hs cs =
     let ts : List ℕ = tablesOctets hs cs in
     octets-append (leOf 4 32) (leOf 4 0 ++ (leOf 4 0 ++ ts)) (octets-leOf 4 32)
-    (octets-append (leOf 4 0) (leOf 4 0 ++ ts) (octets-leOf 4 0) (octets-append (leOf 4 0) ts (octets-leOf 4 0) (tables-octets hs cs)))
+    (octets-append (leOf 4 0) (leOf 4 0 ++ ts) (octets-leOf 4 0)
+    (octets-append (leOf 4 0) ts (octets-leOf 4 0) (tables-octets hs cs)))
 
 -- ---- tables that begin takes are sound
 
@@ -51,19 +53,26 @@ from-tags [] fs e = refl
 from-tags (t ∷ ts) [] e = absurd (omega arith)
 from-tags (t ∷ ts) (f ∷ fs) e = ap (λ (l : List ℕ). t ∷ l) (from-tags ts fs (omega arith))
 
-rows-sound : (seen : List ℕ) (at : ℕ) (ts fs : List ℕ) → Tags ts → length ts ≡ length fs → rowsAt seen at ts ≡ clear → SoundColumns seen (columnsFrom ts fs)
+rows-sound : (seen : List ℕ) (at : ℕ) (ts fs : List ℕ) → Tags ts → length ts ≡ length fs → rowsAt seen at ts ≡ clear
+    → SoundColumns seen (columnsFrom ts fs)
 unfolding rowsAt
 rows-sound seen at [] fs h l e = tt
 rows-sound seen at (t ∷ ts) [] h l e = absurd (omega arith)
 rows-sound seen at (t ∷ ts) (f ∷ fs) h l e =
     let c₁ = apart (need (isType (t % 65536)) unknownType at) _ e in
-    let c₂ = apart (need (not (memb t seen)) repeatedTag at) _ (c₁ .1) in
-    ((h .0, omega arith, unmet _ unknownType at (c₁ .0)), not-true (memb t seen) (unmet _ repeatedTag at (c₂ .0)), rows-sound (t ∷ seen) (at + 1) ts fs (h .1) (omega arith) (c₂ .1))
+    let c₂ = apart (need (not (memb t seen)) repeatedTag at) _ (c₁ .1) in (
+      (h .0, omega arith, unmet _ unknownType at (c₁ .0)),
+      not-true (memb t seen) (unmet _ repeatedTag at (c₂ .0)),
+      rows-sound (t ∷ seen) (at + 1) ts fs (h .1) (omega arith) (c₂ .1),
+    )
 
-pub from-sound : (base : ℕ) (ts fs : List ℕ) → Tags ts → length ts ≡ length fs → tagsAt base ts ≡ clear → SoundTable (columnsFrom ts fs)
+pub from-sound : (base : ℕ) (ts fs : List ℕ) → Tags ts → length ts ≡ length fs → tagsAt base ts ≡ clear
+    → SoundTable (columnsFrom ts fs)
 unfolding tagsAt
-from-sound base ts fs h l e =
-    (rw (from-long ts fs l) (tags-few base ts e), rows-sound [] base ts fs h l (apart (need (leb (length ts) mostColumns) manyColumns (base + mostColumns)) _ e .1))
+from-sound base ts fs h l e = (
+  rw (from-long ts fs l) (tags-few base ts e),
+  rows-sound [] base ts fs h l (apart (need (leb (length ts) mostColumns) manyColumns (base + mostColumns)) _ e .1),
+)
 
 -- ---- sound tables are taken
 
@@ -71,7 +80,8 @@ pub flags-long : (cs : List Column) → length (flagsOf cs) ≡ length cs
 flags-long [] = refl
 flags-long (c ∷ cs) = ap suc (flags-long cs)
 
-pub columns-taken : (seen : List ℕ) (at : ℕ) (cs : List Column) → SoundColumns seen cs → rowsAt seen at (tagsOf cs) ≡ clear
+pub columns-taken : (seen : List ℕ) (at : ℕ) (cs : List Column) → SoundColumns seen cs
+    → rowsAt seen at (tagsOf cs) ≡ clear
 unfolding rowsAt
 columns-taken seen at [] h = refl
 columns-taken seen at (c ∷ cs) h = rw (h .0 .2, h .1) (columns-taken (c .tag ∷ seen) (at + 1) cs (h .2))

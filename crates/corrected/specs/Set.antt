@@ -24,7 +24,8 @@ use Rattle.lookup.specs.declared.Which.{Which}
 use Rattle.editing.specs.Put.{setIn}
 use Rattle.editing.specs.Done.{slotsUnder, setTo, set-is, set-sound}
 use Rattle.lookup.specs.Named.{There, hasRecord}
-use Rattle.correcting.specs.Correct.{bookAt, fits, losing, columnFor, slotFor, entryAt, setAt, setBook, setAnswer, setOctets}
+use Rattle.correcting.specs.Correct.{bookAt, fits, losing, columnFor, slotFor, entryAt, setAt, setBook, setAnswer}
+use Rattle.correcting.specs.Correct.{setOctets}
 use Rattle.correcting.specs.declared.Corrected.the-variants as corrected
 use Rattle.corrected.specs.Named.{named-in, has-named, column-for, slot-for, found-is, Offers, entry-sound, entry-fits, entry-keeps}
 use Rattle.corrected.specs.Call.{BookIn, book-may, book-good, room-may, room-good, answered-done, done-answered, Corrects, corrects}

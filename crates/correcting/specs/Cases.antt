@@ -310,7 +310,8 @@ module _ (b v : List ℕ) (room tag : ℕ) (t : Bool) (j : Judgement) (je : j �
         let w₂ = number-walks in
         let a : at ≡ placeIn b k = y ∙ walk-behind k f b (w₂ .0) (omega (arith, w₂ .1)) ∙ walk-place b k f (good .first) in
         let n = good .count in
-        let s : Stands (length cs) (placeIn b k) b = rw (slots-long true cs) at (number-stands b (good .clears) k (omega arith)) in (
+        let s : Stands (length cs) (placeIn b k) b =
+        rw (slots-long true cs) at (number-stands b (good .clears) k (omega arith)) in (
           rw (good .cols) (reach-tags cs),
           rw (good .cols) (reach-forms cs),
           rw (good .cols) (reach-bits cs),

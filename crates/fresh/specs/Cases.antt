@@ -54,7 +54,8 @@ module _ (ht hf ts fs hd d : List ℕ) (v : Verdict) (e : v ≡ beginAt ht hf ts
       start-is : length (startOctets (columnsFrom ht hf) (columnsFrom ts fs)) ≡ 24 + 8 * (length ht + length ts)
       start-is =
           let c = begin-in ht hf ts fs (length d) (sym e ∙ z) in
-          start-long (columnsFrom ht hf) (columnsFrom ts fs) ∙ rw (from-long ht hf (c .heads), from-long ts fs (c .rows))
+          start-long (columnsFrom ht hf) (columnsFrom ts fs)
+          ∙ rw (from-long ht hf (c .heads), from-long ts fs (c .rows))
 
       pub lay-put : (o x : List ℕ) → o ≡ beginOctets ht hf ts fs d → x ≡ stored o (24 + 8 * (length ht + length ts)) hd
           → x ≡ layOctets ht hf ts fs hd d

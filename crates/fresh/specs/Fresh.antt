@@ -37,18 +37,25 @@ layOctets ht hf ts fs hd d =
 
 -- ---- sound tables are laid down
 
-pub front-long : (hs cs : List Column) (hd : List ℕ) → length (frontOf hs cs hd) ≡ startSize (length hs) (length cs) + length hd
+pub front-long : (hs cs : List Column) (hd : List ℕ)
+    → length (frontOf hs cs hd) ≡ startSize (length hs) (length cs) + length hd
 unfolding frontOf
 front-long hs cs hd = let n = start-long hs cs in length-append (startOctets hs cs) hd ∙ omega arith
 
 module _ (hs cs : List Column) (hf fs hd : List ℕ) (h : SoundTable hs) (k : SoundTable cs)
     (p : length hf ≡ length hs) (q : length fs ≡ length cs) where
-  pub lay-clear : (n : ℕ) → startSize (length hs) (length cs) + length hd ≤ n → layAt (tagsOf hs) hf (tagsOf cs) fs hd n ≡ clear
+  pub lay-clear : (n : ℕ) → startSize (length hs) (length cs) + length hd ≤ n
+      → layAt (tagsOf hs) hf (tagsOf cs) fs hd n ≡ clear
   unfolding layAt
   lay-clear n l =
       let t : length (tagsOf hs) ≡ length hs = tags-long hs in
       let u : length (tagsOf cs) ≡ length cs = tags-long cs in
-      rw (begin-taken hs cs hf fs h k p q n (omega arith), t, u, le-leb (startSize (length hs) (length cs) + length hd) n l)
+      rw (
+        begin-taken hs cs hf fs h k p q n (omega arith),
+        t,
+        u,
+        le-leb (startSize (length hs) (length cs) + length hd) n l,
+      )
 
   pub front-laid : (d : List ℕ) → startSize (length hs) (length cs) + length hd ≤ length d
       → layOctets (tagsOf hs) hf (tagsOf cs) fs hd d
@@ -66,7 +73,8 @@ plain-laid hs cs hd h k d l =
 -- ---- parts become the book
 
 -- the front with the address records behind it is what the book has behind its header, and an open header
-parts-are : (b : Book) → frontOf (b .heads) (b .cols) (rowOctets (b .head)) ++ rowsOctets (b .rows) ≡ openHeader (bodyOctets b)
+parts-are : (b : Book) → frontOf (b .heads) (b .cols) (rowOctets (b .head)) ++ rowsOctets (b .rows)
+    ≡ openHeader (bodyOctets b)
 unfolding frontOf startOctets bodyOctets
 parts-are b =
     ap openHeader (append-assoc (tablesOctets (b .heads) (b .cols)) (rowOctets (b .head)) (rowsOctets (b .rows)))

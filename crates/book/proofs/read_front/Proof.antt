@@ -23,13 +23,19 @@ returns : tie.Need-returns
 returns c = search fronts
 
 add-judge-head : tie.Need-add-judge-head
-add-judge-head c = let f = tables-fit _ _ (c .before .before .before .before .read-tables .ensures) in omega (arith, f .0 .few, f .1 .few)
+add-judge-head c =
+    let f = tables-fit _ _ (c .before .before .before .before .read-tables .ensures) in omega
+    (arith, f .0 .few, f .1 .few)
 
 mul-judge-head : tie.Need-mul-judge-head
-mul-judge-head c = let f = tables-fit _ _ (c .before .before .before .before .read-tables .ensures) in omega (arith, f .0 .few, f .1 .few)
+mul-judge-head c =
+    let f = tables-fit _ _ (c .before .before .before .before .read-tables .ensures) in omega
+    (arith, f .0 .few, f .1 .few)
 
 add-judge-head-2 : tie.Need-add-judge-head-2
-add-judge-head-2 c = let f = tables-fit _ _ (c .before .before .before .before .read-tables .ensures) in omega (arith, f .0 .few, f .1 .few)
+add-judge-head-2 c =
+    let f = tables-fit _ _ (c .before .before .before .before .read-tables .ensures) in omega
+    (arith, f .0 .few, f .1 .few)
 
 judge-head-requires : tie.Need-judge-head-requires
 judge-head-requires c κs = tables-fit _ _ (c .before .before .before .before .read-tables .ensures) .0

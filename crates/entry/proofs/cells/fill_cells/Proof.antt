@@ -13,7 +13,8 @@ use Rattle.entry.proofs.cells.column_width.Reads as column-width-reads
 
 abbrev Inv-loop : tie.InvT-loop
 Inv-loop p forms s at start₀ end₀ j₀ i₀ start end j i =
-    (i ≤ length s) × (j ≤ length forms) × (start ≡ padded (take j (edgesFrom forms 0 p at s))) × (end ≡ padded (take j (drop 1 (edgesFrom forms 0 p at s))))
+    (i ≤ length s) × (j ≤ length forms) × (start ≡ padded (take j (edgesFrom forms 0 p at s)))
+    × (end ≡ padded (take j (drop 1 (edgesFrom forms 0 p at s))))
     × (drop j (edgesFrom forms 0 p at s) ≡ edgesFrom (drop j forms) j p (at + i) (drop i s))
 
 abbrev μ-loop : tie.MeasureT-loop
