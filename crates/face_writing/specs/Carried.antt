@@ -1,5 +1,5 @@
--- The ten numbers carry a writing from call to call: the next call takes up the state that a call hands back. Numbers
--- that no call leaves are out of turn.
+-- The ten numbers carry a writing from call to call: the next call takes up the state that a call left. Where the form
+-- or the stage is no octet, and behind the finish, every call but begin is out of turn.
 use Prim.Native.Nat.{ℕ, _≤_, _<_}
 use native.Mathlib.Omega.{arith}
 use mathlib.Core.Path.{_≡_, refl}
@@ -15,7 +15,7 @@ use Rattle.writing.specs.declared.Writing.{Writing}
 use Rattle.writing.specs.declared.Outcome.{Outcome}
 use Rattle.writing.specs.State.{settled, refusedWith, saneOf, idleOf, withinOf}
 use Rattle.writing.specs.Column.{columnFor}
-use Rattle.framing.specs.Frame.{openAt, openOutcome, closeAt, closeOutcome, finishAt, finishOutcome}
+use Rattle.framing.specs.Frame.{openAt, openOutcome, closeAt, closeOutcome, finishAt, finishNext, finishOutcome}
 use Rattle.giving.specs.Give.{Given, giveAt, giveOutcome, elementAt, elementOutcome}
 use Rattle.face_writing.specs.Calling.{formFrom, stageFrom, stateOf, fieldsOf, stateLeft}
 
@@ -37,7 +37,7 @@ unfolding stateLeft
 carried xs clear next f s = back-done next f s
 carried xs (Refused r) next f s = back-refused xs (r .place)
 
--- ---- numbers that no call leaves
+-- ---- a form or a stage that is no octet; behind the finish
 
 pub wide-form : (xs : List ℕ) → 255 < getD xs 8 0 → stateOf xs .stage ≡ 2
 unfolding stateOf stageFrom
@@ -53,6 +53,9 @@ wide-stage xs h = rw (lt-ltb 255 (getD xs 9 0) h) (same (ltb 255 (getD xs 8 0)) 
 
 pub no-stage : (st : Writing) → st .stage ≡ 2 → st .stage ≡ 0 → ⊥
 no-stage st e z = omega arith
+
+pub behind-finish : (st : Writing) → finishNext st .stage ≡ 0 → ⊥
+behind-finish st z = omega arith
 
 -- no call but begin takes up a state whose stage isn't 0
 abbrev pub noTurn : Writing → Outcome
