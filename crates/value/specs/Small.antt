@@ -51,6 +51,5 @@ cases =
 
 pub small-cases : AllRight cases
 unfolding wordOf fewest leastOf longNumber wholeOf encodeNumber widthOf charWidth textFrom formIn numberOf formAt formOf
-
-unfolding numericOf binaryOf elementOf valueOf
+    numericOf binaryOf elementOf valueOf
 small-cases = (refl, (refl, (refl, (refl, (refl, (refl, (refl, (refl, (refl, (refl, (refl, (refl, (refl, (refl, (refl, (refl, (refl, (refl, tt))))))))))))))))))
