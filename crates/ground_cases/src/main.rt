@@ -61,7 +61,7 @@ fn value_walked(s: &[u8], out: &mut [u8; 4096], at: usize) -> usize {
         return at;
     }
     let form = value::form_of(word32(s, 0) % 65536);
-    if form == 255 {
+    if form == value::UNKNOWN {
         return words(out, at, b"unknown");
     }
     walk(value::walk_value(form, &s[2..]), out, at)

@@ -29,7 +29,7 @@ fn columns(mark: u8, c: Columns, out: &mut [u8; 4096], at: usize) -> usize {
     let mut at = put(out, at, b' ');
     at = put(out, at, mark);
     let mut i = 0;
-    while i < 128 {
+    while i < answers::MOST_COLUMNS {
         if n <= i {
             return at;
         }
@@ -66,7 +66,7 @@ fn nothing(c: Columns) -> bool {
     let flags = c.flags;
     let forms = c.forms;
     let mut i = 0;
-    while i < 128 {
+    while i < answers::MOST_COLUMNS {
         if tags[i] != 0 {
             return false;
         }

@@ -1,5 +1,4 @@
 // Lists a book that is read from standard input: a line for the book, one for its header record and one for each address record; or its refusal.
-use answers::MOST_LISTED;
 use answers::NO_ROOM;
 use answers::Refusal;
 use book::Judged;
@@ -11,11 +10,15 @@ use octets::word32;
 ghost use mathlib.Core.Path.{_≡_};
 ghost use lib.ListN.{length};
 
+const MOST_LISTED: usize = 65536;
+
 // One octet more than a listed book may have, so that a longer one is seen.
-fn room() -> [u8; 65537]
+const ROOM: usize = MOST_LISTED + 1;
+
+fn room() -> [u8; ROOM]
     ensures { λ r. ⌜ 65537 ≡ length r ⌝ }
 {
-    [0; 65537]
+    [0; ROOM]
 }
 
 fn refused(r: Refusal, out: &mut [u8; 4096], to: usize) -> usize {

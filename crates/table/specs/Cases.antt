@@ -16,7 +16,7 @@ use Rattle.answers.specs.declared.Verdict.{Verdict}
 use Rattle.answers.specs.declared.Verdict.the-variants.{Clear as clear, Refused}
 use Rattle.answers.specs.Verdict.{refused, _then_, need, apart, unmet, no-clear}
 use Rattle.answers.specs.declared.Refusal.{Refusal}
-use Rattle.value.specs.Types.{numberOf, isType}
+use Rattle.value.specs.Types.{numberOf, isType, unknownForm}
 use Rattle.table.specs.declared.Columns.{Columns}
 use Rattle.table.specs.declared.Table.{Table}
 use Rattle.table.specs.declared.Found.{Found}
@@ -41,13 +41,13 @@ module _ (b : List ℕ) (at : ℕ) {v : Verdict} where
   row-flags e h k = rw (e, length-drop at b, le-leb 4 (length b - at) h, lt-leb 8 (length b - at) k)
 
 module _ (b : List ℕ) (at w f : ℕ) (q : w ≡ wordOf 4 (drop at b)) (g : f ≡ numberOf (w % 65536)) (k : 8 ≤ length b - at) where
-  pub row-type : {v : Verdict} → v ≡ refused unknownType at → f ≡ 255 → v ≡ rowAt at (drop at b)
+  pub row-type : {v : Verdict} → v ≡ refused unknownType at → f ≡ unknownForm → v ≡ rowAt at (drop at b)
   unfolding rowAt isType
-  row-type e z = rw (e, length-drop at b, le-leb 4 (length b - at) (omega arith), le-leb 8 (length b - at) k, ← q, ← g, eq-eqb f 255 z)
+  row-type e z = rw (e, length-drop at b, le-leb 4 (length b - at) (omega arith), le-leb 8 (length b - at) k, ← q, ← g, eq-eqb f unknownForm z)
 
-  pub row-good : (f ≡ 255 → ⊥) → clear ≡ rowAt at (drop at b)
+  pub row-good : (f ≡ unknownForm → ⊥) → clear ≡ rowAt at (drop at b)
   unfolding rowAt isType
-  row-good z = rw (length-drop at b, le-leb 4 (length b - at) (omega arith), le-leb 8 (length b - at) k, ← q, ← g, ne-eqb f 255 z)
+  row-good z = rw (length-drop at b, le-leb 4 (length b - at) (omega arith), le-leb 8 (length b - at) k, ← q, ← g, ne-eqb f unknownForm z)
 
 pub ruleset rows = (row-tag, row-flags, row-type, row-good)
 

@@ -1,13 +1,14 @@
+use Rattle.answers.specs.Numbers.{mostColumns}
 use Prim.Native.Nat.{_-_, _≤_}
 use borrow.Author.Needs.{needs}
 use Rattle.judge_cases.proofs.columns.Statement.{statement}
 use Rattle.judge_cases.proofs.columns.Tie as tie
 
 abbrev Inv-loop : tie.InvT-loop
-Inv-loop mark out₀ at n tags flags at₀ i₀ out at' i = i ≤ 128
+Inv-loop mark out₀ at n tags flags at₀ i₀ out at' i = i ≤ mostColumns
 
 abbrev μ-loop : tie.MeasureT-loop
-μ-loop mark out₀ at n tags flags at₀ i₀ out at' i = 128 - i
+μ-loop mark out₀ at n tags flags at₀ i₀ out at' i = mostColumns - i
 
 put-requires : tie.Need-put-requires Inv-loop μ-loop
 put-requires c κs = search needs

@@ -1,13 +1,14 @@
+use Rattle.answers.specs.Numbers.{mostColumns}
 use Prim.Native.Nat.{_-_, _≤_}
 use borrow.Author.Needs.{needs}
 use Rattle.judge_cases.proofs.nothing.Statement.{statement}
 use Rattle.judge_cases.proofs.nothing.Tie as tie
 
 abbrev Inv-loop : tie.InvT-loop
-Inv-loop n tags flags forms i₀ i = i ≤ 128
+Inv-loop n tags flags forms i₀ i = i ≤ mostColumns
 
 abbrev μ-loop : tie.MeasureT-loop
-μ-loop n tags flags forms i₀ i = 128 - i
+μ-loop n tags flags forms i₀ i = mostColumns - i
 
 returns : tie.Need-returns Inv-loop μ-loop
 returns c = search needs
