@@ -43,11 +43,28 @@ module _ (b : List ℕ) (at : ℕ) {v : Verdict} where
 module _ (b : List ℕ) (at w f : ℕ) (q : w ≡ wordOf 4 (drop at b)) (g : f ≡ numberOf (w % 65536)) (k : 8 ≤ length b - at) where
   pub row-type : {v : Verdict} → v ≡ refused unknownType at → f ≡ unknownForm → v ≡ rowAt at (drop at b)
   unfolding rowAt isType
-  row-type e z = rw (e, length-drop at b, le-leb 4 (length b - at) (omega arith), le-leb 8 (length b - at) k, ← q, ← g, eq-eqb f unknownForm z)
+  row-type e z =
+      rw (
+        e,
+        length-drop at b,
+        le-leb 4 (length b - at) (omega arith),
+        le-leb 8 (length b - at) k,
+        ← q,
+        ← g,
+        eq-eqb f unknownForm z,
+      )
 
   pub row-good : (f ≡ unknownForm → ⊥) → clear ≡ rowAt at (drop at b)
   unfolding rowAt isType
-  row-good z = rw (length-drop at b, le-leb 4 (length b - at) (omega arith), le-leb 8 (length b - at) k, ← q, ← g, ne-eqb f unknownForm z)
+  row-good z =
+      rw (
+        length-drop at b,
+        le-leb 4 (length b - at) (omega arith),
+        le-leb 8 (length b - at) k,
+        ← q,
+        ← g,
+        ne-eqb f unknownForm z,
+      )
 
 pub ruleset rows = (row-tag, row-flags, row-type, row-good)
 

@@ -90,7 +90,8 @@ module _ {M : Type 1} (𝓤 : URA M) (H : Heap 𝓤) (A : Atoms 𝓤) (W : Given
   vals = (mach d ∷ [], (vint w32 t ∷ [], tt))
 
   abbrev Post : Val → SProp 𝓤
-  Post = walkOf 𝓤 H A found.ended stayed (found.clauses 𝓤 H A mem run) .post (((κ, tt), (q, tt), tt, (d, (t, tt)), vals), tt)
+  Post = walkOf 𝓤 H A found.ended stayed (found.clauses 𝓤 H A mem run) .post
+      (((κ, tt), (q, tt), tt, (d, (t, tt)), vals), tt)
 
   -- what the two results own
   abbrev Told : Looked → Val → Fml
@@ -108,7 +109,16 @@ module _ {M : Type 1} (𝓤 : URA M) (H : Heap 𝓤) (A : Atoms 𝓤) (W : Given
 
   -- the call of `lookup_at`
   abbrev to-asked : Asked 𝓤 H A mem run .Ghost
-  to-asked = (((κ, tt), (q, tt), tt, (d .book, (d .at, (t, tt))), (slice d ∷ [], (vint w64 (d .at) ∷ [], (vint w32 t ∷ [], tt)))), tt)
+  to-asked = (
+    (
+      (κ, tt),
+      (q, tt),
+      tt,
+      (d .book, (d .at, (t, tt))),
+      (slice d ∷ [], (vint w64 (d .at) ∷ [], (vint w32 t ∷ [], tt))),
+    ),
+    tt,
+  )
 
   goes-asked : d .at < 2 ^ 64
       → ent 𝓤 (sep 𝓤 (sep 𝓤 (A .lft κ q) (sem 𝓤 H A ftrue)) (sem 𝓤 H A (Slice κ d))) (Asked 𝓤 H A mem run .pre to-asked)
@@ -119,23 +129,29 @@ module _ {M : Type 1} (𝓤 : URA M) (H : Heap 𝓤) (A : Atoms 𝓤) (W : Given
       fjoin ! $ move ! (1 ∷ 0 ∷ []) $ join ! $ frame ! $ done !
 
   asked-said : (l : Looked)
-      → ent 𝓤 (ensured 𝓤 H A lookup-at.ended (lookup-at.clauses 𝓤 H A mem run) (κ, tt) (d .book, (d .at, (t, tt))) tt l) (fact 𝓤 (Answer l))
-  asked-said l = exE 𝓤 _ (λ ws. snd∗ 𝓤 (sem 𝓤 H A (lasts lookup-at.ended (κ, tt) (d .book, (d .at, (t, tt))) ws)) (fact 𝓤 (Answer l)))
+      → ent 𝓤 (ensured 𝓤 H A lookup-at.ended (lookup-at.clauses 𝓤 H A mem run) (κ, tt)
+      (d .book, (d .at, (t, tt))) tt l) (fact 𝓤 (Answer l))
+  asked-said l =
+      exE 𝓤 _ (λ ws. snd∗ 𝓤 (sem 𝓤 H A (lasts lookup-at.ended (κ, tt) (d .book, (d .at, (t, tt))) ws))
+      (fact 𝓤 (Answer l)))
 
   -- the call of `cut`, with the answer l, whose machine value is u
   abbrev to-taken : Looked → Val → Taken 𝓤 H A mem run .Ghost
   to-taken l u = (((κ, tt), (q, tt), tt, (d .book, (l, tt)), (slice d ∷ [], (u ∷ [], tt))), tt)
 
   goes-taken : (l : Looked) (u : Val) → Is S.the-row l (u ∷ [])
-      → ent 𝓤 (sep 𝓤 (sep 𝓤 (A .lft κ q) (sem 𝓤 H A ftrue)) (sem 𝓤 H A (Slice κ d))) (Taken 𝓤 H A mem run .pre (to-taken l u))
+      → ent 𝓤 (sep 𝓤 (sep 𝓤 (A .lft κ q) (sem 𝓤 H A ftrue)) (sem 𝓤 H A (Slice κ d)))
+      (Taken 𝓤 H A mem run .pre (to-taken l u))
   goes-taken l u is =
       qed W ((‵ (flft κ q) ⊛ ‵ ftrue) ∷ ‵ (Slice κ d) ∷ []) ∵ nothing ! $
       owned ! S.the-row (Is S.the-row) (EL.makes S.the-type S′.the-plain 𝓤 H A) l _ is $ fjoin ! $
       move ! (2 ∷ 0 ∷ []) $ fjoin ! $ move ! (1 ∷ 0 ∷ []) $ join ! $ frame ! $ done !
 
   taken-said : (l : Looked) (x : RefT (List ℕ))
-      → ent 𝓤 (ensured 𝓤 H A cut.ended (cut.clauses 𝓤 H A mem run) (κ, tt) (d .book, (l, tt)) tt x) (fact 𝓤 (Stretch l x))
-  taken-said l x = exE 𝓤 _ (λ ws. snd∗ 𝓤 (sem 𝓤 H A (lasts cut.ended (κ, tt) (d .book, (l, tt)) ws)) (fact 𝓤 (Stretch l x)))
+      → ent 𝓤 (ensured 𝓤 H A cut.ended (cut.clauses 𝓤 H A mem run) (κ, tt) (d .book, (l, tt)) tt x)
+      (fact 𝓤 (Stretch l x))
+  taken-said l x =
+      exE 𝓤 _ (λ ws. snd∗ 𝓤 (sem 𝓤 H A (lasts cut.ended (κ, tt) (d .book, (l, tt)) ws)) (fact 𝓤 (Stretch l x)))
 
   module _ (l : Looked) (u : Val) (x : RefT (List ℕ)) (w : Val) (is : Is S.the-row l (u ∷ [])) where
     abbrev made : Found
@@ -152,63 +168,87 @@ module _ {M : Type 1} (𝓤 : URA M) (H : Heap 𝓤) (A : Atoms 𝓤) (W : Given
     machines = (u ∷ [], (w ∷ [], tt))
 
     typed : Is (ShrSlice (named 0) κ u8) x (w ∷ []) → Holds (hasTy (F′.mir (named 0)) both) × WT both
-    typed is′ = LL.lawful (F.the-type α) (F′.the-laws α) 𝓤 H A W .typed made (both ∷ []) (machines, (refl, (is, (is′, tt)))) .0
+    typed is′ =
+        LL.lawful (F.the-type α) (F′.the-laws α) 𝓤 H A W .typed made (both ∷ []) (machines, (refl, (is, (is′, tt)))) .0
 
     -- what the fields own together is what the struct owns
-    shut : ent 𝓤 (sem 𝓤 H A (owns (rows (F.the-type α .parts)) (intos (F.the-type α .parts) fields) machines)) (sem 𝓤 H A (F.the-row α .own made (both ∷ [])))
+    shut : ent 𝓤 (sem 𝓤 H A (owns (rows (F.the-type α .parts)) (intos (F.the-type α .parts) fields) machines))
+        (sem 𝓤 H A (F.the-row α .own made (both ∷ [])))
     shut =
         qed W (‵ (owns (rows (F.the-type α .parts)) (intos (F.the-type α .parts) fields) machines) ∷ []) ∵
         feqI ! (List Val) (both ∷ []) (both ∷ []) refl $ fjoin ! $
-        fpack ! (Valss (rows (F.the-type α .parts))) (within (shape (F.the-type α)) (intos (F.the-type α .parts) fields) (both ∷ [])) machines $
+        fpack ! (Valss (rows (F.the-type α .parts)))
+        (within (shape (F.the-type α)) (intos (F.the-type α .parts) fields) (both ∷ [])) machines $
         done !
 
     exits : Answer l → Stretch l x
-        → ent 𝓤 (⋆ 𝓤 H A (‵ (Part x w) ∷ (‵ (flft κ q) ⊛ ‵ ftrue) ∷ ‵ (Own κ d) ∷ ‵ (owns (u32 ∷ []) (t, tt) (vals .1)) ∷ [])) (Post both)
+        → ent 𝓤 (⋆ 𝓤 H A (‵ (Part x w) ∷ (‵ (flft κ q) ⊛ ‵ ftrue) ∷ ‵ (Own κ d) ∷ ‵
+        (owns (u32 ∷ []) (t, tt) (vals .1)) ∷ [])) (Post both)
     exits e e′ =
         qed W (‵ (Part x w) ∷ (‵ (flft κ q) ⊛ ‵ ftrue) ∷ ‵ (Own κ d) ∷ ‵ (owns (u32 ∷ []) (t, tt) (vals .1)) ∷ []) ∵
-        suffices ! _ (ends-at 𝓤 H A found.ended stayed (found.clauses 𝓤 H A mem run) W (((κ, tt), (q, tt), tt, (d, (t, tt)), vals), tt) both made (tt, (tt, tt)) (tt, (tt, tt))) $
+        suffices ! _ (ends-at 𝓤 H A found.ended stayed (found.clauses 𝓤 H A mem run) W
+        (((κ, tt), (q, tt), tt, (d, (t, tt)), vals), tt) both made (tt, (tt, tt)) (tt, (tt, tt))) $
         says ! (e, found-stretch (now (d .book)) (now x) (d .at) t l e e′) $
         move ! (1 ∷ []) $ frame ! $ move ! (1 ∷ 2 ∷ []) $ fjoin ! $ frame ! $
         nothing ! $ move ! (1 ∷ 0 ∷ []) $ fjoin ! $
         owned ! S.the-row (Is S.the-row) (EL.makes S.the-type S′.the-plain 𝓤 H A) l _ is $ fjoin ! $ by ! shut
 
-  module _ (C : Calls 𝓤 H) (Λ : Loops 𝓤 H) (fm : FmC 𝓤 H (W .laws) C) (known-asked : Triple 𝓤 (C lookup-at-def.name) (Asked 𝓤 H A mem run)) (known-taken : Triple 𝓤 (C cut-def.name) (Taken 𝓤 H A mem run)) where
+  module _ (C : Calls 𝓤 H) (Λ : Loops 𝓤 H) (fm : FmC 𝓤 H (W .laws) C)
+      (known-asked : Triple 𝓤 (C lookup-at-def.name) (Asked 𝓤 H A mem run))
+      (known-taken : Triple 𝓤 (C cut-def.name) (Taken 𝓤 H A mem run)) where
     walk : Holds (hasTy (T′.mir (named 0)) (mach d)) × WT (mach d)
-        → ent 𝓤 (onEntry 𝓤 H A found.signature (κ, tt) (q, tt) (d, (t, tt)) vals) (WpFn 𝓤 H C Λ code.function (mach d ∷ vint w32 t ∷ []) Post)
+        → ent 𝓤 (onEntry 𝓤 H A found.signature (κ, tt) (q, tt) (d, (t, tt)) vals)
+        (WpFn 𝓤 H C Λ code.function (mach d ∷ vint w32 t ∷ []) Post)
     walk wt =
         qed W ((‵ (flft κ q) ⊛ ‵ ftrue) ∷ ‵ (owns (B (κ, tt) ∷ u32 ∷ []) (d, (t, tt)) vals) ∷ []) ∵
         enter ! C Λ code.function (mach d ∷ vint w32 t ∷ []) _ $
-        alloc1 ! (λ l₀. alloc1 ! (λ l₁. alloc1 ! (λ l₂. alloc1 ! (λ l₃. alloc1 ! (λ l₄. alloc1 ! (λ l₅. alloc1 ! (λ l₆. alloc1 ! (λ l₇. alloc0 ! $
+        alloc1 ! (λ l₀. alloc1 ! (λ l₁. alloc1 !
+        (λ l₂. alloc1 ! (λ l₃. alloc1 ! (λ l₄. alloc1 ! (λ l₅. alloc1 ! (λ l₆. alloc1 ! (λ l₇. alloc0 ! $
         params1 ! $
         pass1 ! (init ! 12 refl wt) $ pass1 ! (init ! 10 refl (tt, record { fits = t-fits })) $ pass0 ! $
         -- [_7; …; _6; …; _5; …; _4; …; _3; …; _2; …; _1; …; room for _0; …; the token; what v and tag own]
-        assigns ! (of-opd ! (load ! (from ! (fld ! refl (stop !))) (look-in ! 12 (sub ! 0 refl (whole !))))) (from ! (stop !)) (init ! 4 refl (tt, wt .1 .0)) $
-        assigns ! (of-opd ! (load ! (from ! (fld ! refl (stop !))) (look-in ! 12 (sub ! 1 refl (whole !))))) (from ! (stop !)) (init ! 2 refl (tt, wt .1 .1 .0)) $
+        assigns ! (of-opd ! (load ! (from ! (fld ! refl (stop !))) (look-in ! 12 (sub ! 0 refl (whole !)))))
+        (from ! (stop !)) (init ! 4 refl (tt, wt .1 .0)) $
+        assigns ! (of-opd ! (load ! (from ! (fld ! refl (stop !))) (look-in ! 12 (sub ! 1 refl (whole !)))))
+        (from ! (stop !)) (init ! 2 refl (tt, wt .1 .1 .0)) $
         move ! (17 ∷ []) $ fsplit ! $ use1 W (‵ (Slice κ d) ⊛ ‵ (Own κ d)) (apart κ d 𝓤 H A W) $ split ! $
         move ! (19 ∷ 0 ∷ []) $ use2 W (raw (Asked 𝓤 H A mem run .pre to-asked)) (goes-asked (wt .1 .1 .0 .fits)) $
         -- [what the callee asks; what v owns; what tag owns; _7; …]
-        calls-at ! fm (Asked 𝓤 H A mem run) known-asked to-asked (and-then ! (load ! (from ! (stop !)) (look ! 7 refl)) (and-then ! (load ! (from ! (stop !)) (look ! 5 refl)) (and-then ! (load ! (from ! (stop !)) (look ! 13 refl)) (no-more !)))) (λ u.
-        use1 W (later (some (λ (l : Looked). ((‵ (flft κ q) ⊛ ‵ ftrue) ⊛ ‵ (Told l u)) ⊛ raw (ensured 𝓤 H A lookup-at.ended (lookup-at.clauses 𝓤 H A mem run) (κ, tt) (d .book, (d .at, (t, tt))) tt l)))) (id⊢ 𝓤 _) $
+        calls-at ! fm (Asked 𝓤 H A mem run) known-asked to-asked
+        (and-then ! (load ! (from ! (stop !)) (look ! 7 refl))
+        (and-then ! (load ! (from ! (stop !)) (look ! 5 refl))
+        (and-then ! (load ! (from ! (stop !)) (look ! 13 refl)) (no-more !)))) (λ u.
+        use1 W (later (some (λ (l : Looked). ((‵ (flft κ q) ⊛ ‵ ftrue) ⊛ ‵ (Told l u)) ⊛ raw
+        (ensured 𝓤 H A lookup-at.ended (lookup-at.clauses 𝓤 H A mem run) (κ, tt)
+        (d .book, (d .at, (t, tt))) tt l)))) (id⊢ 𝓤 _) $
         await ! tt $ pick ! (λ l.
         split ! $ move ! (1 ∷ []) $ use1 W (raw (fact 𝓤 (Answer l))) (asked-said l) $
         heard ! (Answer l) (λ e. split ! $ move ! (1 ∷ []) $
         -- [what the answer owns; the token; what v owns; what tag owns; _7; …]
         peeks ! S.the-row (Is S.the-row) (shows 𝓤 H A S.the-row) l (u ∷ []) (λ is. drop ! $
         -- [the token; what v owns; what tag owns; _7; …]
-        land ! (from ! (stop !)) (init ! 11 refl (EL.lawful S.the-type S′.the-laws 𝓤 H A W tt .typed l (u ∷ []) is .0)) $
-        assigns ! (of-opd ! (load ! (from ! (fld ! refl (stop !))) (look-in ! 15 (sub ! 0 refl (whole !))))) (from ! (stop !)) (init ! 3 refl (tt, wt .1 .0)) $
+        land ! (from ! (stop !)) (init ! 11 refl
+        (EL.lawful S.the-type S′.the-laws 𝓤 H A W tt .typed l (u ∷ []) is .0)) $
+        assigns ! (of-opd ! (load ! (from ! (fld ! refl (stop !))) (look-in ! 15 (sub ! 0 refl (whole !)))))
+        (from ! (stop !)) (init ! 3 refl (tt, wt .1 .0)) $
         move ! (1 ∷ []) $ use1 W (‵ (Slice κ d) ⊛ ‵ (Own κ d)) (apart κ d 𝓤 H A W) $ split ! $ move ! (2 ∷ 0 ∷ []) $
         use2 W (raw (Taken 𝓤 H A mem run .pre (to-taken l u))) (goes-taken l u is) $
         -- [what the callee asks; what v owns; what tag owns; _7; …]
-        calls-at ! fm (Taken 𝓤 H A mem run) known-taken (to-taken l u) (and-then ! (load ! (from ! (stop !)) (look ! 3 refl)) (and-then ! (load ! (from ! (stop !)) (look ! 11 refl)) (no-more !))) (λ w.
-        use1 W (later (some (λ (x : RefT (List ℕ)). ((‵ (flft κ q) ⊛ ‵ ftrue) ⊛ ‵ (Part x w)) ⊛ raw (ensured 𝓤 H A cut.ended (cut.clauses 𝓤 H A mem run) (κ, tt) (d .book, (l, tt)) tt x)))) (id⊢ 𝓤 _) $
+        calls-at ! fm (Taken 𝓤 H A mem run) known-taken (to-taken l u)
+        (and-then ! (load ! (from ! (stop !)) (look ! 3 refl))
+        (and-then ! (load ! (from ! (stop !)) (look ! 11 refl)) (no-more !))) (λ w.
+        use1 W (later (some (λ (x : RefT (List ℕ)). ((‵ (flft κ q) ⊛ ‵ ftrue) ⊛ ‵ (Part x w)) ⊛ raw
+        (ensured 𝓤 H A cut.ended (cut.clauses 𝓤 H A mem run) (κ, tt) (d .book, (l, tt)) tt x)))) (id⊢ 𝓤 _) $
         await ! tt $ pick ! (λ x.
         split ! $ move ! (1 ∷ []) $ use1 W (raw (fact 𝓤 (Stretch l x))) (taken-said l x) $
         heard ! (Stretch l x) (λ e′. split ! $ move ! (1 ∷ []) $
         -- [what the stretch owns; the token; what v owns; what tag owns; _7; …]
-        peeks ! (ShrSlice (named 0) κ u8) (Is (ShrSlice (named 0) κ u8)) (shows 𝓤 H A (ShrSlice (named 0) κ u8)) x (w ∷ []) (λ is′.
+        peeks ! (ShrSlice (named 0) κ u8) (Is (ShrSlice (named 0) κ u8)) (shows 𝓤 H A (ShrSlice (named 0) κ u8)) x
+        (w ∷ []) (λ is′.
         land ! (from ! (stop !)) (init ! 10 refl (shr-slice-lawful 𝓤 H A W erased κ u8 .typed x (w ∷ []) is′ .0)) $
-        assigns ! (agg ! (and-then ! (load ! (from ! (stop !)) (look ! 12 refl)) (and-then ! (load ! (from ! (stop !)) (look ! 10 refl)) (no-more !)))) (from ! (stop !)) (init ! 18 refl (typed l u x w is is′)) $
+        assigns ! (agg ! (and-then ! (load ! (from ! (stop !)) (look ! 12 refl))
+        (and-then ! (load ! (from ! (stop !)) (look ! 10 refl)) (no-more !)))) (from ! (stop !))
+        (init ! 18 refl (typed l u x w is is′)) $
         returns ! (look ! 18 refl) $ forget ! 4 refl $ forget ! 6 refl $ forget ! 8 refl $ forget ! 10 refl $
         forget ! 12 refl $ forget ! 14 refl $ forget ! 16 refl $ forget ! 18 refl $
         move ! (18 ∷ 19 ∷ []) $ free1 ! $ move ! (16 ∷ 17 ∷ []) $ free1 ! $ move ! (14 ∷ 15 ∷ []) $ free1 ! $
@@ -221,15 +261,22 @@ module _ {M : Type 1} (𝓤 : URA M) (H : Heap 𝓤) (A : Atoms 𝓤) (W : Given
   walks : (C : Calls 𝓤 H) (Λ : Loops 𝓤 H) → FmC 𝓤 H (W .laws) C
       → Triple 𝓤 (C lookup-at-def.name) (Asked 𝓤 H A mem run) → Triple 𝓤 (C cut-def.name) (Taken 𝓤 H A mem run)
       → Walks 𝓤 H A found.ended stayed (WpFn 𝓤 H C Λ code.function) (found.clauses 𝓤 H A mem run)
-  walks C Λ fm known-asked known-taken = walked 𝓤 H A found.ended stayed (found.clauses 𝓤 H A mem run) (WpFn 𝓤 H C Λ code.function) (λ κs. (LL.vals (D κs) (L κs), (uint-vals w32, tt))) (λ κs. (LL.tells (D κs) (L κs), (uint-tells w32, tt)))
-      (λ κs qs bounds a g are. via 𝓤 _ (fst∗ 𝓤 _ (emp 𝓤)) (walk 𝓤 H A W mem run (κs .0) (qs .0) (a .0) (a .1 .0) (are .1 .0 .1) C Λ fm known-asked known-taken (LL.lawful (D κs) (L κs) 𝓤 H A W .typed (a .0) _ (are .0) .0)))
+  walks C Λ fm known-asked known-taken = walked 𝓤 H A found.ended stayed (found.clauses 𝓤 H A mem run)
+      (WpFn 𝓤 H C Λ code.function) (λ κs. (LL.vals (D κs) (L κs), (uint-vals w32, tt)))
+      (λ κs. (LL.tells (D κs) (L κs), (uint-tells w32, tt)))
+      (λ κs qs bounds a g are. via 𝓤 _ (fst∗ 𝓤 _ (emp 𝓤))
+      (walk 𝓤 H A W mem run (κs .0) (qs .0) (a .0) (a .1 .0) (are .1 .0 .1) C Λ fm known-asked known-taken
+      (LL.lawful (D κs) (L κs) 𝓤 H A W .typed (a .0) _ (are .0) .0)))
 
 meets : {M : Type 1} (𝓤 : URA M) (H : Heap 𝓤) (A : Atoms 𝓤) (W : Given 𝓤 H A) (mem : Memory
     → SProp 𝓤) (run : Routine → Fun 𝓤) (𝓣 : Tables 𝓤 H)
     → Triple 𝓤 (𝓣 .C lookup-at-def.name) (Asked 𝓤 H A mem run) → Triple 𝓤 (𝓣 .C cut-def.name) (Taken 𝓤 H A mem run)
     → Meets 𝓤 H A found.signature (WpFn 𝓤 H (𝓣 .C) (𝓣 .Λ) code.function) (found.spec 𝓤 H A mem run)
 meets 𝓤 H A W mem run 𝓣 known-asked known-taken =
-    walk-meets 𝓤 H A found.ended stayed W (goes-none 𝓤 H A W 1 B yes (λ κs x f. refl), (goes-none 𝓤 H A W 1 (λ _. u32) yes (λ κs x f. refl), tt))
+    walk-meets 𝓤 H A found.ended stayed W (
+      goes-none 𝓤 H A W 1 B yes (λ κs x f. refl),
+      (goes-none 𝓤 H A W 1 (λ _. u32) yes (λ κs x f. refl), tt),
+    )
     (found.clauses 𝓤 H A mem run) (WpFn 𝓤 H (𝓣 .C) (𝓣 .Λ) code.function) (WpFn-mono 𝓤 H (W .laws) 𝓣 code.function)
     (walks 𝓤 H A W mem run (𝓣 .C) (𝓣 .Λ) (fmOf 𝓤 H (W .laws) 𝓣) known-asked known-taken)
 
@@ -239,5 +286,9 @@ view-found-spec 𝓤 H 𝓜 𝓖 𝓡 =
     entered 𝓤 H (tripleOf 𝓤 H (𝓖 .A) found.signature (found.spec 𝓤 H (𝓖 .A) (𝓜 .mem) (𝓡 .run)))
     (tables 𝓤 H 𝓜 𝓡 code.env .C) (tables 𝓤 H 𝓜 𝓡 code.env .Λ) key code.function (code.unfolded 𝓤 H 𝓜 𝓡)
     (meets 𝓤 H (𝓖 .A) (givenOf 𝓤 H 𝓜 𝓖) (𝓜 .mem) (𝓡 .run) (tablesOf 𝓤 H 𝓜 (tables 𝓤 H 𝓜 𝓡 code.env))
-    (cited 𝓤 H (Asked 𝓤 H (𝓖 .A) (𝓜 .mem) (𝓡 .run)) 𝓜 𝓡 code.env lookup-at-def.name lookup-at-def.routine code.calls-lookup·lookup-at (lookup-at-thm.met 𝓤 H 𝓜 𝓖 𝓡))
-    (cited 𝓤 H (Taken 𝓤 H (𝓖 .A) (𝓜 .mem) (𝓡 .run)) 𝓜 𝓡 code.env cut-def.name cut-def.routine code.calls-view·cut (cut-thm.met 𝓤 H 𝓜 𝓖 𝓡)))
+    (cited 𝓤 H
+    (Asked 𝓤 H (𝓖 .A) (𝓜 .mem)
+    (𝓡 .run)) 𝓜 𝓡 code.env lookup-at-def.name lookup-at-def.routine code.calls-lookup·lookup-at
+    (lookup-at-thm.met 𝓤 H 𝓜 𝓖 𝓡))
+    (cited 𝓤 H (Taken 𝓤 H (𝓖 .A) (𝓜 .mem) (𝓡 .run)) 𝓜 𝓡 code.env cut-def.name cut-def.routine code.calls-view·cut
+    (cut-thm.met 𝓤 H 𝓜 𝓖 𝓡)))
