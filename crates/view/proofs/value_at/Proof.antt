@@ -1,6 +1,6 @@
--- `view::seen` meets its contract: a walk of its MIR, by hand. The `View` that `view_of` returns is held in a local and passed to `view_stretch`. All that the
--- proof knows of the two is that each meets its contract. In a local of a body MIR erases the lifetime of the struct's type, so the value is shown to have the
--- type at `erased`.
+-- `view::value_at` meets its contract: a walk of its MIR, by hand. The `View` that `view_of` returns is held in a local and
+-- passed to `view_stretch`. All that the proof knows of the two is that each meets its contract. In a local of a body MIR
+-- erases the lifetime of the struct's type, so the value is shown to have the type at `erased`.
 -- Assumes nothing.
 use mathlib.Core.Path.{_≡_, refl, ap, _∙_}
 use Prim.Native.Nat.{ℕ, _<_, _^_}
@@ -50,10 +50,10 @@ use Rattle.view.proofs.view_stretch as view-stretch
 use Rattle.view.proofs.view_stretch.Symbol as view-stretch-def
 use Rattle.view.proofs.view_stretch.Symbol.{name as #view·view-stretch}
 use Rattle.view.proofs.view_stretch.Met as view-stretch-thm
-use Rattle.view.proofs.seen.Key.{name as #view·seen}
-use Rattle.view.proofs.seen as seen
-use Rattle.view.proofs.seen.Statement as stated
-use Rattle.view.proofs.seen.Code as code
+use Rattle.view.proofs.value_at.Key.{name as #view·value-at}
+use Rattle.view.proofs.value_at as seen
+use Rattle.view.proofs.value_at.Statement as stated
+use Rattle.view.proofs.value_at.Code as code
 
 abbrev stayed : Stays (seen.ended .signature .params) (seen.ended .kept)
 stayed = (stay-none-slice (0 ∷ []) tt (plain (λ _. u8)) yes, (stay-none (λ _. usize) yes, (stay-none (λ _. u32) yes, tt)))
@@ -157,11 +157,11 @@ seen-meets 𝓤 H A W mem run 𝓣 known-made known-asked =
     (seen.clauses 𝓤 H A mem run) (WpFn 𝓤 H (𝓣 .C) (𝓣 .Λ) code.function) (WpFn-mono 𝓤 H (W .laws) 𝓣 code.function)
     (seen-walks 𝓤 H A W mem run (𝓣 .C) (𝓣 .Λ) (fmOf 𝓤 H (W .laws) 𝓣) known-made known-asked)
 
-pub seen-spec : {M : Type 1} → stated.statement M
+pub value-at-spec : {M : Type 1} → stated.statement M
 unfolding code.routine tablesOf
-seen-spec 𝓤 H 𝓜 𝓖 𝓡 =
+value-at-spec 𝓤 H 𝓜 𝓖 𝓡 =
     entered 𝓤 H (tripleOf 𝓤 H (𝓖 .A) seen.signature (seen.spec 𝓤 H (𝓖 .A) (𝓜 .mem) (𝓡 .run)))
-    (tables 𝓤 H 𝓜 𝓡 code.env .C) (tables 𝓤 H 𝓜 𝓡 code.env .Λ) #view·seen code.function (code.unfolded 𝓤 H 𝓜 𝓡)
+    (tables 𝓤 H 𝓜 𝓡 code.env .C) (tables 𝓤 H 𝓜 𝓡 code.env .Λ) #view·value-at code.function (code.unfolded 𝓤 H 𝓜 𝓡)
     (seen-meets 𝓤 H (𝓖 .A) (givenOf 𝓤 H 𝓜 𝓖) (𝓜 .mem) (𝓡 .run) (tablesOf 𝓤 H 𝓜 (tables 𝓤 H 𝓜 𝓡 code.env))
     (cited 𝓤 H (Made 𝓤 H (𝓖 .A) (𝓜 .mem) (𝓡 .run)) 𝓜 𝓡 code.env #view·view-of view-of-def.routine code.calls-view·view-of (view-of-thm.met 𝓤 H 𝓜 𝓖 𝓡))
     (cited 𝓤 H (Asked 𝓤 H (𝓖 .A) (𝓜 .mem) (𝓡 .run)) 𝓜 𝓡 code.env #view·view-stretch view-stretch-def.routine code.calls-view·view-stretch (view-stretch-thm.met 𝓤 H 𝓜 𝓖 𝓡)))
