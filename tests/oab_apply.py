@@ -7,7 +7,7 @@ import os
 import random
 
 import oab_tools
-from oab_tools import differs, run
+from oab_tools import content, differs, run
 
 import make
 from model import books, oab, spelling
@@ -64,14 +64,14 @@ def against_model(folder):
         name = file if file in words else 'standard input'
         old = os.stat(book)
         got = run('-n', *words, stdin=stdin)
-        differs('-n', (1 if refused else 0, b'', octets), (*got[:2], book.read_bytes()))
+        differs('-n', (1 if refused else 0, b'', octets), (*got[:2], content(book)))
         got = run(*words, stdin=stdin)
         if refused is None:
-            differs(('applied', lines), (0, b'', b'', made), (*got, book.read_bytes()))
+            differs(('applied', lines), (0, b'', b'', made), (*got, content(book)))
         else:
             at, answer = refused
             said = f'oab: {name}: line {at}: refused {answer[1]} at {answer[2]}: '.encode()
-            differs(('refused', lines), (1, b'', True, octets), (*got[:2], got[2].startswith(said), book.read_bytes()))
+            differs(('refused', lines), (1, b'', True, octets), (*got[:2], got[2].startswith(said), content(book)))
         if refused or made == octets:
             differs('untouched', old.st_ino, os.stat(book).st_ino)
         differs('nothing left beside', ['book', 'lines'], sorted(p.name for p in folder.iterdir()))
@@ -84,10 +84,10 @@ def forms(folder):
     text = b'\n'.join((b'# a comment', b'', b'  \t', b'set 0 DisplayName  two spaces  ', b'\tset  0\t AddressBookProxyAddresses\tSMTP:a b\tsmtp:c\\x09d',
                        b'set header 6800001F #not a comment', b'clear 0  DisplayName ', b'set\t0\tDisplayName\t  kept '))
     want = oab.write_book(*books.SMALL_TABLE[:2], [b'#not a comment\0'], [[b'b@c\0', b'  kept \0', b'\x02SMTP:a b\0smtp:c\td\0']])
-    differs('forms', (0, b'', b'', want), (*run('apply', book, stdin=text), book.read_bytes()))
+    differs('forms', (0, b'', b'', want), (*run('apply', book, stdin=text), content(book)))
     old = os.stat(book).st_ino
     for nothing in (b'', b'\n', b'# nothing\n', b'clear 0 DisplayName\nset 0 DisplayName   kept '):
-        differs(('nothing changes', nothing), (0, b'', b'', want, old), (*run('apply', book, stdin=nothing), book.read_bytes(), os.stat(book).st_ino))
+        differs(('nothing changes', nothing), (0, b'', b'', want, old), (*run('apply', book, stdin=nothing), content(book), os.stat(book).st_ino))
 
 
 def faults(folder):
@@ -102,7 +102,7 @@ def faults(folder):
                         (b'set 0 DisplayName a\tb', 'b: '), (b'set 0 DisplayName a\0b', 'has an octet 00'), (b'SET 0 DisplayName a', 'SET: ')):
         got = run('apply', book, stdin=good + b'#\n' + line + b'\n' + good)
         said = f'oab: standard input: line 3: {fault}'.encode()
-        differs((line, got[2]), (2, b'', True, books.small_book()), (*got[:2], got[2].startswith(said), book.read_bytes()))
+        differs((line, got[2]), (2, b'', True, books.small_book()), (*got[:2], got[2].startswith(said), content(book)))
     for words in (('apply',), ('apply', book, 'a', 'b'), ('apply', book, folder / 'missing'), ('apply', folder / 'missing'), ('apply', '-', '-')):
         differs(words, (2, b''), run(*words)[:2])
     book.write_bytes(b'no book at all')
@@ -117,7 +117,7 @@ def elsewhere(folder):
     lines = folder / 'lines'
     lines.write_bytes(b'set 0 DisplayName Q')
     want = oab.write_book(*books.SMALL_TABLE[:3], [[b'b@c\0', b'Q\0', books.SMALL_TABLE[3][0][2]]])
-    differs('-o', (0, want, books.small_book()), (run('apply', book, lines, '-o', out)[0], out.read_bytes(), book.read_bytes()))
+    differs('-o', (0, want, books.small_book()), (run('apply', book, lines, '-o', out)[0], content(out), content(book)))
     differs('-o -', (0, want), run('apply', '-', lines, '-o', '-', stdin=books.small_book())[:2])
     differs('-n says so', (0, b'', f'oab: {book}: would be saved: 78 octets become 80\n'.encode()), run('apply', '-n', book, lines))
     differs('-n -q', (0, b'', b''), run('apply', '-nq', book, lines))

@@ -9,7 +9,7 @@ import os
 import random
 
 import oab_tools
-from oab_tools import TOP, differs, run, says
+from oab_tools import TOP, content, differs, run, says
 
 import make
 from model import books, oab, spelling
@@ -156,7 +156,7 @@ def correcting(folder):
         if number % 4 == 3:                    # elsewhere: the book itself stays
             other.unlink(missing_ok=True)
             says(words[:1], path, answer, run('-o', other, *words, stdin=stdin), b'')
-            differs('-o', (octets, want if answer[0] == 'done' else None), (path.read_bytes(), other.read_bytes() if other.exists() else None))
+            differs('-o', (octets, want if answer[0] == 'done' else None), (path.read_bytes(), content(other)))
             says('-o -', path, answer, run('-o', '-', *words, stdin=stdin), want if answer[0] == 'done' else b'')
         else:
             says(words[:1], path, answer, run(*words, stdin=stdin), b'')
@@ -188,7 +188,7 @@ def usage(folder):
         got = run(*words)
         named = got[2].startswith(f'oab: {at_fault}: '.encode()) or at_fault == 'usage' and got[2].startswith(b'usage: oab ')
         differs((at_fault, words, got[2][:80]), (2, b'', True), (*got[:2], named))
-    differs('still the book', books.small_book(), small.read_bytes())
+    differs('still the book', books.small_book(), content(small))
 
 
 def refusals_in_words(folder):
@@ -220,7 +220,7 @@ def anywhere(folder):
     for words in (('set', small, 0, '3001001F', 'Q', '-o', out), ('-o', out, 'set', small, 0, '3001001F', 'Q'),
                   ('set', '-o', out, small, '-q', 0, '3001001F', 'Q'), ('set', small, 0, '-o', out, '3001001F', '--', 'Q')):
         out.unlink(missing_ok=True)
-        differs(words, (0, b'', b'', books.small_book(), want), (*run(*words), small.read_bytes(), out.read_bytes() if out.exists() else None))
+        differs(words, (0, b'', b'', books.small_book(), want), (*run(*words), content(small), content(out)))
     for value in ('-o', '--raw', '-5', '--', '-'):
         run('set', '-o', out, small, 0, '3001001F', '--', value)
         differs(('data', value), (0, value.encode() + b'\n'), run('get', out, 0, '3001001F')[:2])

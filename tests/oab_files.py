@@ -17,7 +17,7 @@ import time
 import zlib
 
 import oab_tools
-from oab_tools import NOBODY, as_nobody, differs, refusal, run
+from oab_tools import NOBODY, as_nobody, content, differs, refusal, run
 
 from model import books, oab
 
@@ -32,7 +32,7 @@ def put(path, octets=SMALL, mode=0o644):
 
 
 def mode_of(path):
-    return stat.S_IMODE(os.lstat(path).st_mode)
+    return stat.S_IMODE(os.lstat(path).st_mode) if path.exists() else None
 
 
 def set_q(book, *more, **how):
@@ -43,12 +43,12 @@ def set_q(book, *more, **how):
 
 def in_place(folder):
     book = put(folder / 'book', mode=0o640)
-    differs('saved', (0, b'', b'', WITH_Q, 0o640), (*set_q(book), book.read_bytes(), mode_of(book)))
+    differs('saved', (0, b'', b'', WITH_Q, 0o640), (*set_q(book), content(book), mode_of(book)))
     link = folder / 'link'
     link.symlink_to('book')
-    differs('a link stays one', (0, True, SMALL), (run('clear', link, 0, '3001001F')[0], link.is_symlink(), book.read_bytes()))
+    differs('a link stays one', (0, True, SMALL), (run('clear', link, 0, '3001001F')[0], link.is_symlink(), content(book)))
     long = put(folder / ('b' * 255))
-    differs('a long name', (0, WITH_Q), (set_q(long)[0], long.read_bytes()))
+    differs('a long name', (0, WITH_Q), (set_q(long)[0], content(long)))
     differs('nothing left beside', {'book', 'link', 'b' * 255}, {p.name for p in folder.iterdir()})
 
 
@@ -58,22 +58,22 @@ def elsewhere(folder):
     for mask, mode in ((0o022, 0o600), (0, 0o600), (0o277, 0o400)):
         out.unlink(missing_ok=True)
         got = set_q(book, '-o', out, preexec_fn=lambda: os.umask(mask))
-        differs(('a new file', oct(mask)), (0, b'', b'', WITH_Q, mode), (*got, out.read_bytes(), mode_of(out)))
+        differs(('a new file', oct(mask)), (0, b'', b'', WITH_Q, mode), (*got, content(out), mode_of(out)))
     for mode in (0o600, 0o644, 0o660):
         put(out, b'old', mode)
-        differs(('an old file', oct(mode)), (0, WITH_Q, mode), (set_q(book, '-o', out)[0], out.read_bytes(), mode_of(out)))
+        differs(('an old file', oct(mode)), (0, WITH_Q, mode), (set_q(book, '-o', out)[0], content(out), mode_of(out)))
     link, there = folder / 'link', folder / 'there'
     link.symlink_to('there')
-    differs('a link to no file yet', (0, True, WITH_Q), (set_q(book, '-o', link)[0], link.is_symlink(), there.read_bytes()))
+    differs('a link to no file yet', (0, True, WITH_Q), (set_q(book, '-o', link)[0], link.is_symlink(), content(there)))
     put(there, b'old', 0o600)
-    differs('a link to a file', (0, True, WITH_Q, 0o600), (set_q(book, '-o', link)[0], link.is_symlink(), there.read_bytes(), mode_of(there)))
+    differs('a link to a file', (0, True, WITH_Q, 0o600), (set_q(book, '-o', link)[0], link.is_symlink(), content(there), mode_of(there)))
     loop = folder / 'loop'
     loop.symlink_to('loop')
     differs('a link to itself', (2, True), (set_q(book, '-o', loop)[0], loop.is_symlink()))
     differs('a folder', 2, set_q(book, '-o', folder)[0])
-    differs('the book itself', (0, WITH_Q), (set_q(book, '-o', book)[0], book.read_bytes()))
+    differs('the book itself', (0, WITH_Q), (set_q(book, '-o', book)[0], content(book)))
     differs('lines', (0, b'', b'Q\n', 0o600), (*run('get', book, 0, '3001001F', '-o', folder / 'lines')[:2],
-                                            (folder / 'lines').read_bytes(), mode_of(folder / 'lines')))
+                                            content(folder / 'lines'), mode_of(folder / 'lines')))
     if os.geteuid() == 0:
         put(out, b'old', 0o640)
         os.chown(out, NOBODY, NOBODY)
@@ -93,7 +93,7 @@ def straight(folder):
     differs('it is still a pipe', True, stat.S_ISFIFO(os.lstat(pipe).st_mode))
     pipe.unlink()
     os.mkfifo(pipe)
-    writer = threading.Thread(target=lambda: pipe.write_bytes(SMALL))
+    writer = threading.Thread(target=lambda: pipe.write_bytes(SMALL), daemon=True)
     writer.start()
     command = subprocess.Popen([oab_tools.program, 'set', str(pipe), '0', '3001001F', 'Q'])
     writer.join(20)
@@ -114,7 +114,7 @@ def straight(folder):
         to.write(b'front')
         to.flush()
         got = subprocess.run([oab_tools.program, 'set', '-o', '/dev/stdout', str(book), '0', '3001001F', 'Q'], stdout=to)
-    differs('-o /dev/stdout', (0, b'front' + WITH_Q), (got.returncode, out.read_bytes()))
+    differs('-o /dev/stdout', (0, b'front' + WITH_Q), (got.returncode, content(out)))
 
 
 def kept(folder):
@@ -130,7 +130,7 @@ def kept(folder):
     other = folder / 'other'
     os.link(book, other)
     said = f'oab: {book}: is parted from its other hard link, which keeps the old file\n'.encode()
-    differs('a hard link', (0, b'', said, WITH_Q, SMALL), (*set_q(book), book.read_bytes(), other.read_bytes()))
+    differs('a hard link', (0, b'', said, WITH_Q, SMALL), (*set_q(book), content(book), content(other)))
 
 
 # ---------------------------------------------------------------- what goes wrong
@@ -151,7 +151,7 @@ def hostile(folder):
 
     def stays(what, got, said):
         differs((what, got[2]), (2, b'', True, SMALL, ['book']),
-                (got[0], got[1], said in got[2], book.read_bytes(), [p.name for p in mine.iterdir()]))
+                (got[0], got[1], said in got[2], content(book), [p.name for p in mine.iterdir()]))
 
     if run('--help', preexec_fn=as_nobody)[0] != 0:
         print('nobody can run the command here: a full disk, a read-only book and a closed folder are not tried')
@@ -210,7 +210,7 @@ def stopped(folder):
         command.send_signal(kind)
         status = command.wait()
         stops += status == -kind
-        now = book.read_bytes()
+        now = content(book)
         if status == 0 and want is None:
             want = now
         differs(('a book', kind, status), True, now == octets or now == want or run('check', book)[0] == 0)
@@ -293,14 +293,14 @@ def many(folder):
             command.stdin.close()
     differs('all done', [0] * 40, [p.wait() for p in started])
     rows = [[row[0], oab.encode_number(1000 + i), None if i % 2 else b'\x07'] for i, row in enumerate(table[3])]
-    differs('none lost', True, oab.write_book(table[0], table[1], [], rows) == book.read_bytes())
+    differs('none lost', True, oab.write_book(table[0], table[1], [], rows) == content(book))
 
 
 def progress(folder):
     """Over a second on a terminal: how far it is, wiped out at the end. Elsewhere, and with -q, nothing."""
     octets = big_book()[0]
     book = put(folder / 'book', octets)
-    lines = b''.join(b'set %d 39FE001F a\n' % number for number in range(80))
+    lines = b''.join(b'set %d 39FE001F a\n' % number for number in range(150))
     for quiet in (False, True):
         master, slave = pty.openpty()
         command = subprocess.Popen([oab_tools.program, 'apply', str(book), '-o', str(folder / 'out')] + ['-q'] * quiet,
@@ -323,9 +323,9 @@ def progress(folder):
         if quiet:
             differs('-q', (0, b''), (status, seen))
         elif took > 1.5:
-            differs('progress', (0, True, True), (status, b' of 80 corrections' in seen, seen.endswith(b'\r\x1b[K')))
+            differs('progress', (0, True, True), (status, b' of 150 corrections' in seen, seen.endswith(b'\r\x1b[K')))
         else:
-            print(f'progress is not tried: 80 corrections took {took:.1f} s')
+            print(f'progress is not tried: 150 corrections took {took:.1f} s')
 
 
 if __name__ == '__main__':

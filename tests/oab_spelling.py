@@ -12,7 +12,7 @@ import sys
 import unicodedata
 
 import oab_tools
-from oab_tools import differs, run
+from oab_tools import content, differs, run
 
 from model import books, oab, spelling
 
@@ -64,11 +64,11 @@ def back_and_forth(folder):
         got = run('get', full, 0, tag)
         differs(('printed', kind), (0, spelling.lines(kind, value), b''), got)
         words = got[1].split(b'\n')[:-1]
-        differs(('set back', kind, value[:20]), (0, full.read_bytes()), (run('set', '-o', out, empty, 0, tag, '--', *words)[0], out.read_bytes()))
+        differs(('set back', kind, value[:20]), (0, full.read_bytes()), (run('set', '-o', out, empty, 0, tag, '--', *words)[0], content(out)))
         line = b'set 0 %s ' % tag.encode() + b'\t'.join(words)
-        differs(('applied', kind, value[:20]), (0, full.read_bytes()), (run('apply', '-o', out, empty, stdin=line)[0], out.read_bytes()))
-        found = json.loads(run('get', '--json', full, 0, tag)[1])
-        differs(('--json', kind), spelling.in_json(kind, value), found['value'])
+        differs(('applied', kind, value[:20]), (0, full.read_bytes()), (run('apply', '-o', out, empty, stdin=line)[0], content(out)))
+        got = run('get', '--json', full, 0, tag)
+        differs(('--json', kind), (0, spelling.in_json(kind, value)), (got[0], json.loads(got[1] or b'{}').get('value')))
 
 
 def every_character(folder):
@@ -83,7 +83,7 @@ def every_character(folder):
     got = run('get', full, 0, tag)
     differs('every character', True, (0, spelling.lines(oab.TEXT, value)) == got[:2])
     (folder / 'line').write_bytes(b'set 0 %s %s' % (tag.encode(), got[1]))
-    differs('and back', (0, True), (run('apply', '-o', out, empty, folder / 'line')[0], out.read_bytes() == full.read_bytes()))
+    differs('and back', (0, True), (run('apply', '-o', out, empty, folder / 'line')[0], content(out) == full.read_bytes()))
 
 
 def spelled_wrong(folder):
@@ -97,7 +97,7 @@ def spelled_wrong(folder):
         differs(('in a line', word), (2, True), (got[0], got[2].startswith(b'oab: standard input: line 1: ' + word.encode() + b': ')))
     for word in (b'\xff', b'\xc3', b'\xed\xa0\x80'):
         differs(('no UTF-8', word), 1, run('set', small, 0, '3001001F', word)[0])
-    differs('still the book', books.small_book(), small.read_bytes())
+    differs('still the book', books.small_book(), content(small))
 
 
 STEERING = '\x1b[2J\x07\x85\x9b31m\u202e\u2066\u200f\u2028\ufeff\U000e0041'

@@ -11,6 +11,7 @@ import tempfile
 from pathlib import Path
 
 sys.dont_write_bytecode = True
+os.environ.setdefault('ASAN_OPTIONS', 'detect_leaks=0')    # looking for leaks takes seconds a run on some machines
 
 TOP = Path(__file__).resolve().parent.parent
 NOBODY = 65534
@@ -51,6 +52,11 @@ def run(*words, stdin=b'', **more):
     got = subprocess.run([program, *(w if isinstance(w, bytes) else str(w) for w in words)], input=stdin,
                          capture_output=True, **more)
     return got.returncode, got.stdout, got.stderr
+
+
+def content(path):
+    """The octets of a file, None where there is none."""
+    return path.read_bytes() if path.is_file() else None
 
 
 def refusal(book, number, place):
