@@ -1,4 +1,5 @@
 # Completion of oab's commands, options, records and names of tags for bash.
+_oab_commands="check list columns show get set clear insert delete extract apply"
 _oab_names="
     OfflineAddressBookName OfflineAddressBookDistinguishedName OfflineAddressBookSequence
     OfflineAddressBookContainerGuid AddressBookHierarchicalRootDepartment EmailAddress SmtpAddress DisplayName
@@ -40,7 +41,7 @@ _oab() {
     elif [[ $word == -* ]]; then
         mapfile -t COMPREPLY < <(compgen -W "$options" -- "$word")
     elif [ -z "$command" ]; then
-        mapfile -t COMPREPLY < <(compgen -W "check list columns show get set clear insert delete extract apply" -- "$word")
+        mapfile -t COMPREPLY < <(compgen -W "$_oab_commands" -- "$word")
     elif [ "$at" = 2 ] && [[ $command =~ ^(get|set|clear)$ ]]; then
         mapfile -t COMPREPLY < <(compgen -W "$_oab_names" -- "$word")
     elif [ "$at" = 1 ] && [[ $command =~ ^(show|get|set|clear|extract)$ ]]; then

@@ -77,8 +77,8 @@ static void describe(FILE *to, const struct entry *e)
         fputs("\nThe book is corrected where it stands: a new file beside it is synced and renamed over it. A refusal\n"
               "leaves it as it is.\n", to);
     fputs("\nRECORD is 'header' or a number from 0, TAG eight hex digits or a name such as DisplayName. Values:\n"
-          "numbers in decimal, yes or no, binary in hex, text with \\xNN for an octet and \\\\ for a backslash. Options stand\n"
-          "anywhere before --; a value that starts with a dash needs -- in front of it.\n"
+          "numbers in decimal, yes or no, binary in hex, text with \\xNN for an octet and \\\\ for a backslash.\n"
+          "Options stand anywhere before --; a value that starts with a dash needs -- in front of it.\n"
           "Exit status: 0 done, 1 refused, 2 usage or system error, 3 absent, with -e.\n", to);
 }
 

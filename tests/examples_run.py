@@ -29,7 +29,8 @@ def main():
     differ, count = 0, 0
     for page in ('README.md', 'docs/OAB.md'):
         for command, want in examples(page):
-            got = subprocess.run(['sh', '-c', command], cwd=TOP, stdout=subprocess.PIPE, stderr=subprocess.STDOUT, stdin=subprocess.DEVNULL)
+            got = subprocess.run(['sh', '-c', command], cwd=TOP, stdout=subprocess.PIPE, stderr=subprocess.STDOUT,
+                                 stdin=subprocess.DEVNULL)
             lines = got.stdout.decode().splitlines()
             count += 1
             if lines != want:

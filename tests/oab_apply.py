@@ -81,13 +81,17 @@ def forms(folder):
     """Comments, empty lines, blanks, names, lists by tabs; spaces of a value are kept."""
     book = folder / 'book'
     book.write_bytes(books.small_book())
-    text = b'\n'.join((b'# a comment', b'', b'  \t', b'set 0 DisplayName  two spaces  ', b'\tset  0\t AddressBookProxyAddresses\tSMTP:a b\tsmtp:c\\x09d',
-                       b'set header 6800001F #not a comment', b'clear 0  DisplayName ', b'set\t0\tDisplayName\t  kept '))
-    want = oab.write_book(*books.SMALL_TABLE[:2], [b'#not a comment\0'], [[b'b@c\0', b'  kept \0', b'\x02SMTP:a b\0smtp:c\td\0']])
+    text = b'\n'.join((b'# a comment', b'', b'  \t', b'set 0 DisplayName  two spaces  ',
+                       b'\tset  0\t AddressBookProxyAddresses\tSMTP:a b\tsmtp:c\\x09d',
+                       b'set header 6800001F #not a comment', b'clear 0  DisplayName ',
+                       b'set\t0\tDisplayName\t  kept '))
+    want = oab.write_book(*books.SMALL_TABLE[:2], [b'#not a comment\0'],
+                          [[b'b@c\0', b'  kept \0', b'\x02SMTP:a b\0smtp:c\td\0']])
     differs('forms', (0, b'', b'', want), (*run('apply', book, stdin=text), content(book)))
     old = os.stat(book).st_ino
     for nothing in (b'', b'\n', b'# nothing\n', b'clear 0 DisplayName\nset 0 DisplayName   kept '):
-        differs(('nothing changes', nothing), (0, b'', b'', want, old), (*run('apply', book, stdin=nothing), content(book), os.stat(book).st_ino))
+        differs(('nothing changes', nothing), (0, b'', b'', want, old),
+                (*run('apply', book, stdin=nothing), content(book), os.stat(book).st_ino))
 
 
 def faults(folder):
@@ -95,15 +99,21 @@ def faults(folder):
     book = folder / 'book'
     book.write_bytes(books.small_book())
     good = b'set 0 DisplayName Q\n'
-    for line, fault in ((b'insert 0 x', 'insert: '), (b'set', 'the record is missing'), (b'set 0', 'the tag is missing'),
-                        (b'set 0 DisplayName', 'the value is missing'), (b'set x DisplayName a', 'x: '), (b'set 0 300 a', '300: '),
-                        (b'clear 0', 'the tag is missing'), (b'clear 0 DisplayName a', 'a: '), (b'delete', 'the record is missing'),
-                        (b'delete header', 'header: '), (b'delete 0 1', '1: '), (b'delete -1', '-1: '), (b'set 0 80031003 1\t2\tx', 'x: '),
-                        (b'set 0 DisplayName a\tb', 'b: '), (b'set 0 DisplayName a\0b', 'has an octet 00'), (b'SET 0 DisplayName a', 'SET: ')):
+    for line, fault in ((b'insert 0 x', 'insert: '), (b'set', 'the record is missing'),
+                        (b'set 0', 'the tag is missing'),
+                        (b'set 0 DisplayName', 'the value is missing'), (b'set x DisplayName a', 'x: '),
+                        (b'set 0 300 a', '300: '),
+                        (b'clear 0', 'the tag is missing'), (b'clear 0 DisplayName a', 'a: '),
+                        (b'delete', 'the record is missing'),
+                        (b'delete header', 'header: '), (b'delete 0 1', '1: '), (b'delete -1', '-1: '),
+                        (b'set 0 80031003 1\t2\tx', 'x: '),
+                        (b'set 0 DisplayName a\tb', 'b: '), (b'set 0 DisplayName a\0b', 'has an octet 00'),
+                        (b'SET 0 DisplayName a', 'SET: ')):
         got = run('apply', book, stdin=good + b'#\n' + line + b'\n' + good)
         said = f'oab: standard input: line 3: {fault}'.encode()
         differs((line, got[2]), (2, b'', True, books.small_book()), (*got[:2], got[2].startswith(said), content(book)))
-    for words in (('apply',), ('apply', book, 'a', 'b'), ('apply', book, folder / 'missing'), ('apply', folder / 'missing'), ('apply', '-', '-')):
+    for words in (('apply',), ('apply', book, 'a', 'b'), ('apply', book, folder / 'missing'),
+                  ('apply', folder / 'missing'), ('apply', '-', '-')):
         differs(words, (2, b''), run(*words)[:2])
     book.write_bytes(b'no book at all')
     got = run('apply', book, stdin=good)
@@ -119,9 +129,11 @@ def elsewhere(folder):
     want = oab.write_book(*books.SMALL_TABLE[:3], [[b'b@c\0', b'Q\0', books.SMALL_TABLE[3][0][2]]])
     differs('-o', (0, want, books.small_book()), (run('apply', book, lines, '-o', out)[0], content(out), content(book)))
     differs('-o -', (0, want), run('apply', '-', lines, '-o', '-', stdin=books.small_book())[:2])
-    differs('-n says so', (0, b'', f'oab: {book}: would be saved: 78 octets become 80\n'.encode()), run('apply', '-n', book, lines))
+    differs('-n says so', (0, b'', f'oab: {book}: would be saved: 78 octets become 80\n'.encode()),
+            run('apply', '-n', book, lines))
     differs('-n -q', (0, b'', b''), run('apply', '-nq', book, lines))
-    differs('-n -o', (0, b'', f'oab: {out}: would be saved: 80 octets\n'.encode()), run('apply', '-n', book, lines, '-o', out))
+    differs('-n -o', (0, b'', f'oab: {out}: would be saved: 80 octets\n'.encode()),
+            run('apply', '-n', book, lines, '-o', out))
     differs('-n, nothing', (0, b'', f'oab: {book}: nothing would change\n'.encode()), run('apply', '-n', book, '-'))
 
 

@@ -1,7 +1,7 @@
 """Runs the command `oab` and holds it to the model: what it prints of books, what it saves, which words it refuses.
 
 Run from the top: python3 tests/oab_command.py. It builds the command first (make), or takes the one that OAB names.
-Ends with "N runs, 0 differ". Files and signals: oab_files.py; spelling: oab_spelling.py; apply: oab_apply.py.
+Ends with "N runs, 0 differ". Files: oab_files.py and oab_load.py; spelling: oab_spelling.py; apply: oab_apply.py.
 """
 
 import json
@@ -22,7 +22,8 @@ FLAGS = {0: '', 1: ' index', 2: ' key', 3: ' index key'}
 
 def column_lines(table, name):
     return ''.join(f'{kind} {i} {name(tag)} {spelling.TYPE_WORDS[oab.type_of(tag)]}{FLAGS[bits & 3]}\n'
-                   for kind, columns in (('header', table[0]), ('address', table[1])) for i, (tag, bits) in enumerate(columns))
+                   for kind, columns in (('header', table[0]), ('address', table[1]))
+                   for i, (tag, bits) in enumerate(columns))
 
 
 def hex_tag(tag):
@@ -40,8 +41,10 @@ def shown(record, columns, row, name=hex_tag):
 
 
 def shown_objects(record, columns, row):
-    return [{'record': record, 'tag': hex_tag(tag), 'name': NAMES.get(tag), 'type': spelling.TYPE_WORDS[oab.type_of(tag)],
-             'value': spelling.in_json(oab.type_of(tag), value)} for (tag, _), value in zip(columns, row) if value is not None]
+    return [{'record': record, 'tag': hex_tag(tag), 'name': NAMES.get(tag),
+             'type': spelling.TYPE_WORDS[oab.type_of(tag)],
+             'value': spelling.in_json(oab.type_of(tag), value)}
+            for (tag, _), value in zip(columns, row) if value is not None]
 
 
 def objects(got):
@@ -75,7 +78,8 @@ def of_records(path, octets, table):
     head, tail = ('header', table[0], table[2]), (last, table[1], table[3][last])
     says('show', path, answer, run('show', path, 'header', last), shown(*head) + shown(*tail))
     if answer[0] == 'good':
-        differs('show --json', (0, shown_objects(*head) + shown_objects(*tail)), objects(run('show', '--json', path, 'header', last)))
+        differs('show --json', (0, shown_objects(*head) + shown_objects(*tail)),
+                objects(run('show', '--json', path, 'header', last)))
         differs('extract', (0, oab.record_octets(table[3][last])), run('extract', path, last)[:2])
         differs('extract header', (0, oab.record_octets(table[2])), run('extract', path, 'header')[:2])
     for record, columns, row in (head, tail):
@@ -141,7 +145,8 @@ def correcting(folder):
     rng = random.Random(910)
     path, other = folder / 'corrected', folder / 'other'
     for number in range(120):
-        table = books.some_table(rng, header=rng.choice((0, 1, 3)), address=rng.choice((1, 2, 3, 8, 9)), records=rng.choice((1, 2, 3)), most=4)
+        table = books.some_table(rng, header=rng.choice((0, 1, 3)), address=rng.choice((1, 2, 3, 8, 9)),
+                                 records=rng.choice((1, 2, 3)), most=4)
         octets = books.octets_of(table)
         path.write_bytes(octets)
         payload = make.some_correction(rng, table, rng.choice((0, 0, 0.6)))
@@ -174,19 +179,28 @@ def usage(folder):
     small.write_bytes(books.small_book())
     missing = folder / 'missing'
     for at_fault, words in (
-            ('usage', ()), ('nothing', ('nothing',)), ('check', ('check',)), ('list', ('list',)), ('get', ('get', small, 0)),
-            ('x', ('get', small, 'x', '3001001F')), ('3001', ('get', small, 0, '3001')), ('3001001FF', ('get', small, 0, '3001001FF')),
-            ('NoName', ('get', small, 0, 'NoName')), ('set', ('set', small, 0, '3001001F')), ('b', ('set', small, 0, '3001001F', 'a', 'b')),
+            ('usage', ()), ('nothing', ('nothing',)), ('check', ('check',)), ('list', ('list',)),
+            ('get', ('get', small, 0)),
+            ('x', ('get', small, 'x', '3001001F')), ('3001', ('get', small, 0, '3001')),
+            ('3001001FF', ('get', small, 0, '3001001FF')),
+            ('NoName', ('get', small, 0, 'NoName')), ('set', ('set', small, 0, '3001001F')),
+            ('b', ('set', small, 0, '3001001F', 'a', 'b')),
             ('x', ('set', small, 0, '80030003', 'x')), ('x', ('set', small, 0, '80031003', '1', '2', 'x')),
-            ('4294967296', ('set', small, 0, '80030003', '4294967296')), ('maybe', ('set', small, 0, '8003000B', 'maybe')),
-            ('ABC', ('set', small, 0, '80031102', 'AB', 'ABC')), ('-1', ('delete', small, '-1')), ('-x', ('delete', '-x', small, 0)),
-            ('--nothing', ('check', '--nothing', small)), ('-n', ('check', '-n', small)), ('-e', ('set', '-e', small, 0, '3001001F', 'a')),
-            ('-o', ('delete', small, 0, '-o')), ('-o', ('-o', missing, 'delete', small, 0, '-o', missing)), ('c', ('list', small, 'c')),
+            ('4294967296', ('set', small, 0, '80030003', '4294967296')),
+            ('maybe', ('set', small, 0, '8003000B', 'maybe')),
+            ('ABC', ('set', small, 0, '80031102', 'AB', 'ABC')), ('-1', ('delete', small, '-1')),
+            ('-x', ('delete', '-x', small, 0)),
+            ('--nothing', ('check', '--nothing', small)), ('-n', ('check', '-n', small)),
+            ('-e', ('set', '-e', small, 0, '3001001F', 'a')),
+            ('-o', ('delete', small, 0, '-o')), ('-o', ('-o', missing, 'delete', small, 0, '-o', missing)),
+            ('c', ('list', small, 'c')),
             (missing, ('check', missing)), (folder, ('list', folder)), (missing, ('insert', small, 0, missing)),
-            ('a', ('set', '--raw', small, 0, '3001001F', 'a')), ('--raw', ('get', '--raw', '--json', small, 0, '3001001F')),
+            ('a', ('set', '--raw', small, 0, '3001001F', 'a')),
+            ('--raw', ('get', '--raw', '--json', small, 0, '3001001F')),
             ('standard input', ('delete', '-', 0)), (r'a\b', ('set', small, 0, '3001001F', r'a\b'))):
         got = run(*words)
-        named = got[2].startswith(f'oab: {at_fault}: '.encode()) or at_fault == 'usage' and got[2].startswith(b'usage: oab ')
+        front = 'usage: oab ' if at_fault == 'usage' else f'oab: {at_fault}: '
+        named = got[2].startswith(front.encode())
         differs((at_fault, words, got[2][:80]), (2, b'', True), (*got[:2], named))
     differs('still the book', books.small_book(), content(small))
 
@@ -218,7 +232,8 @@ def anywhere(folder):
     small.write_bytes(books.small_book())
     want = oab.write_book(*books.SMALL_TABLE[:3], [[b'b@c\0', b'Q\0', books.SMALL_TABLE[3][0][2]]])
     for words in (('set', small, 0, '3001001F', 'Q', '-o', out), ('-o', out, 'set', small, 0, '3001001F', 'Q'),
-                  ('set', '-o', out, small, '-q', 0, '3001001F', 'Q'), ('set', small, 0, '-o', out, '3001001F', '--', 'Q')):
+                  ('set', '-o', out, small, '-q', 0, '3001001F', 'Q'),
+                  ('set', small, 0, '-o', out, '3001001F', '--', 'Q')):
         out.unlink(missing_ok=True)
         differs(words, (0, b'', b'', books.small_book(), want), (*run(*words), content(small), content(out)))
     for value in ('-o', '--raw', '-5', '--', '-'):
@@ -227,7 +242,8 @@ def anywhere(folder):
 
 
 def helping(folder):
-    for words in ((), ('check',), ('list',), ('columns',), ('show',), ('get',), ('set',), ('clear',), ('insert',), ('delete',), ('extract',), ('apply',)):
+    for words in ((), ('check',), ('list',), ('columns',), ('show',), ('get',), ('set',), ('clear',), ('insert',),
+                  ('delete',), ('extract',), ('apply',)):
         for option in ('--help', '-h'):
             got = run(*words, option)
             differs((words, option), (0, True, b''), (got[0], got[1].startswith(b'usage: oab '), got[2]))

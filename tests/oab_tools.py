@@ -27,7 +27,7 @@ def differs(what, want, got):
     if want != got:
         differ += 1
         if differ <= 20:
-            print('differs:', *(f'{word} {str(one)[:300]}' for word, one in (('', what), ('wanted', want), ('got', got))))
+            print(f'differs: {str(what)[:300]} wanted {str(want)[:300]} got {str(got)[:300]}')
 
 
 def is_native(path):

@@ -28,7 +28,8 @@ OCTETS = {'--raw', 'extract', '-'}            # with these the output may be oct
 
 
 def some_octets(rng, most):
-    return bytes(rng.choice((0, 1, 9, 10, 13, 32, 0x5C, 0x7F, 0x80, 0xFF, rng.randrange(256))) for _ in range(rng.randrange(most)))
+    return bytes(rng.choice((0, 1, 9, 10, 13, 32, 0x5C, 0x7F, 0x80, 0xFF, rng.randrange(256)))
+                 for _ in range(rng.randrange(most)))
 
 
 def some_book(rng):
@@ -45,8 +46,10 @@ def some_word(rng, table):
     """Any word without a slash, so that nothing outside the folder is named."""
     tags = [tag for tag, _ in (table[0] + table[1] if table else [])] + [0x3001001F]
     return rng.choice((
-        lambda: 'book', lambda: 'record', lambda: 'lines', lambda: '-', lambda: 'out', lambda: 'header', lambda: str(rng.randrange(4)),
-        lambda: f'{rng.choice(tags):08X}', lambda: f'{rng.choice(tags):08X}', lambda: rng.choice(list(NAMES.values())), lambda: rng.choice(OPTIONS),
+        lambda: 'book', lambda: 'record', lambda: 'lines', lambda: '-', lambda: 'out', lambda: 'header',
+        lambda: str(rng.randrange(4)),
+        lambda: f'{rng.choice(tags):08X}', lambda: f'{rng.choice(tags):08X}', lambda: rng.choice(list(NAMES.values())),
+        lambda: rng.choice(OPTIONS),
         lambda: str(rng.choice((2**32, 2**64 - 1, 2**64, 10**30))), lambda: 'yes', lambda: '00FF', lambda: 'a\\x41\\\\',
         lambda: bytes(o for o in some_octets(rng, 12) if o not in (0, 0x2F))))()
 
@@ -56,8 +59,10 @@ def some_words(rng, table):
     tag = rng.choice([tag for tag, _ in table[1]]) if table and table[1] else 0x3001001F
     kind = oab.type_of(tag) if oab.type_of(tag) != oab.OBJECT else oab.TEXT
     value = spelling.words(kind, books.some_value(rng, kind))
-    right = {'show': ['book', '0', 'header'], 'get': ['book', '0', f'{tag:08X}'], 'set': ['book', '0', f'{tag:08X}', '--', *value],
-             'clear': ['book', '0', f'{tag:08X}'], 'insert': ['book', '0', 'record'], 'delete': ['book', '0'], 'extract': ['book', '0'],
+    right = {'show': ['book', '0', 'header'], 'get': ['book', '0', f'{tag:08X}'],
+             'set': ['book', '0', f'{tag:08X}', '--', *value],
+             'clear': ['book', '0', f'{tag:08X}'], 'insert': ['book', '0', 'record'], 'delete': ['book', '0'],
+             'extract': ['book', '0'],
              'apply': ['book', 'lines']}
     command = rng.choice(COMMANDS)
     words = [command, *right.get(command, ['book'])]
@@ -84,25 +89,27 @@ def some_lines(rng, table):
 def one_run(rng, folder, answers):
     """None, or what is wrong."""
     octets, table = some_book(rng)
-    files = {'book': octets, 'lines': some_lines(rng, table), 'record': rng.choice((some_octets(rng, 60), oab.record_octets(table[3][0]) if table else b''))}
+    files = {'book': octets, 'lines': some_lines(rng, table),
+             'record': rng.choice((some_octets(rng, 60), oab.record_octets(table[3][0]) if table else b''))}
     for path in folder.iterdir():
         path.unlink()
     for name, content in files.items():
         (folder / name).write_bytes(content)
     words = some_words(rng, table)
-    got = subprocess.run([oab_tools.program, *words], cwd=folder, input=rng.choice(list(files.values())), capture_output=True, timeout=60)
+    got = subprocess.run([oab_tools.program, *words], cwd=folder, input=rng.choice(list(files.values())),
+                         capture_output=True, timeout=60)
     answers[got.returncode] += 1
     said = (words, got.returncode, got.stderr[-2000:])
     if got.returncode not in (0, 1, 2, 3) or b'Sanitizer' in got.stderr or b'runtime error' in got.stderr:
         return 'crashed', *said
-    if not is_safe(got.stderr) or not OCTETS.intersection(w for w in words if isinstance(w, str)) and not is_safe(got.stdout):
+    lines = not OCTETS.intersection(word for word in words if isinstance(word, str))
+    if not is_safe(got.stderr) or lines and not is_safe(got.stdout):
         return 'unsafe', *said
     if any(path.name.startswith('.oab') for path in folder.iterdir()):
         return 'a file is left behind', *said
-    if got.returncode and (folder / 'book').read_bytes() != octets and '-o' not in words:
-        return 'refused and changed', *said
-    if '-o' not in words and (folder / 'book').read_bytes() != octets and oab.judge((folder / 'book').read_bytes())[0] != 'good':
-        return 'a bad book is saved', *said
+    now = (folder / 'book').read_bytes()
+    if '-o' not in words and now != octets and (got.returncode or oab.judge(now)[0] != 'good'):
+        return 'refused and changed, or a bad book is saved', *said
     return None
 
 

@@ -39,14 +39,16 @@ def listing(folder):
     differs('two files', (2, b''), sh(LISTING, book, book)[:2])
     differs('an option', (2, b''), sh(LISTING, '-x')[:2])
     with open('/dev/full', 'w') as full:
-        differs('a full output', 2, subprocess.run([LISTING, str(book)], stdout=full, stderr=subprocess.DEVNULL).returncode)
+        differs('a full output', 2, subprocess.run([LISTING, str(book)], stdout=full,
+                                                   stderr=subprocess.DEVNULL).returncode)
 
 
 def command(folder):
     """bin/oab through a link, with its status."""
     link = folder / 'link'
     link.symlink_to(TOP / 'bin/oab')
-    differs('a link', (0, b'examples/small.book: good, 78 octets, 1 record\n', b''), sh(link, 'check', 'examples/small.book', cwd=TOP))
+    differs('a link', (0, b'examples/small.book: good, 78 octets, 1 record\n', b''),
+            sh(link, 'check', 'examples/small.book', cwd=TOP))
     differs('refused', 1, sh(link, 'check', '-', input=b'')[0])
     differs('usage', 2, sh(TOP / 'bin/oab')[0])
 
@@ -81,7 +83,8 @@ def first_runs(folder):
     top, env = tree(folder, BUILDS)
     for what in ('first', 'deleted'):
         got = sh(top / 'bin/listing', env=env, input=b'')
-        differs((what, got[2]), (0, b'listed\n', True), (*got[:2], got[2].startswith(b'listing: the program is proved and built first')))
+        differs((what, got[2]), (0, b'listed\n', True),
+                (*got[:2], got[2].startswith(b'listing: the program is proved and built first')))
         differs('and then not again', (0, b'listed\n', b''), sh(top / 'bin/listing', env=env, input=b''))
         (top / 'target/bin/listing').unlink()
     differs('calls of rt', b'check listing\n' * 2, content(top / 'calls'))
@@ -92,22 +95,31 @@ def make_speaks(folder):
     top, env = tree(folder, 'echo "$@" >>calls\nexit 1\n')
     for missing in ('CC', 'AR'):
         got = sh('make', f'{missing}=no-such-tool', cwd=top, env=env)
-        differs((missing, got[2]), (True, True, None), (got[0] != 0, b'no-such-tool is missing' in got[2], content(top / 'calls')))
+        differs((missing, got[2]), (True, True, None),
+                (got[0] != 0, b'no-such-tool is missing' in got[2], content(top / 'calls')))
     got = sh('make', cwd=top, env=env)
-    differs(('it proves', got[2]), (True, True, True), (got[0] != 0, b'make: the library is proved first' in got[2], content(top / 'calls') is not None))
+    differs(('it proves', got[2]), (True, True, True),
+            (got[0] != 0, b'make: the library is proved first' in got[2], content(top / 'calls') is not None))
 
 
 PROGRAM = '''#include <windtrellis.h>
 #include <stdio.h>
-int main(void) { wt_judged j; printf("%u %u", wt_version() == WT_VERSION, wt_judge((const uint8_t *)"", 0, &j)); return 0; }
+int main(void)
+{
+    wt_judged j;
+    printf("%u %u", wt_version() == WT_VERSION, wt_judge((const uint8_t *)"", 0, &j));
+    return 0;
+}
 '''
 
 
 def installed(folder):
     """Everything in its place, and a C program that is built with the installed header and library alone."""
     differs('make install', 0, sh('make', '-s', 'install', f'DESTDIR={folder}', 'PREFIX=/p', cwd=TOP)[0])
-    modes = {str(path.relative_to(folder)): oct(stat.S_IMODE(path.stat().st_mode)) for path in folder.rglob('*') if path.is_file()}
-    want = {'p/include/windtrellis.h': '0o644', 'p/lib/libwindtrellis.a': '0o644', 'p/lib/pkgconfig/windtrellis.pc': '0o644', 'p/bin/oab': '0o755',
+    modes = {str(path.relative_to(folder)): oct(stat.S_IMODE(path.stat().st_mode)) for path in folder.rglob('*')
+             if path.is_file()}
+    want = {'p/include/windtrellis.h': '0o644', 'p/lib/libwindtrellis.a': '0o644',
+            'p/lib/pkgconfig/windtrellis.pc': '0o644', 'p/bin/oab': '0o755',
             'p/share/man/man1/oab.1': '0o644', 'p/share/bash-completion/completions/oab': '0o644'}
     differs('files', want, modes)
     if not oab_tools.is_native(folder / 'p/bin/oab'):
