@@ -113,7 +113,7 @@ rest-by b first cs e q =
 -- ---- judge, from the front that was read
 
 module _ (b : List ℕ) (t : Tables) (e : t ≡ frontIn b) where
-  front-verdict : t .verdict ≡ frontAt b
+  pub front-verdict : t .verdict ≡ frontAt b
   unfolding frontIn
   front-verdict = by-verdict (frontAt b) b t e
 
@@ -128,25 +128,26 @@ module _ (b : List ℕ) (t : Tables) (e : t ≡ frontIn b) where
       (ap (λ (v : Verdict). answeredBy v b)
       (judge-front b ∙ ap (λ (v : Verdict). v then behindFront b) (sym front-verdict ∙ z)))
 
+  module _ (z : t .verdict ≡ clear) where
+    pub front-place : 24 + 8 * (t .header .count + t .address .count) ≡ recordsPlace (drop 12 b)
+    unfolding frontIn
+    front-place = by-place (frontAt b) b t e z
+
+    pub front-address : t .address ≡ columnsIn (colsIn (drop 12 b))
+    unfolding frontIn
+    front-address = by-address (frontAt b) b t e z
+
+    pub front-header : t .header ≡ columnsIn (headsIn (drop 12 b))
+    unfolding frontIn
+    front-header = by-header (frontAt b) b t e z
+
   module _ (z : t .verdict ≡ clear) (f : ℕ)
       (fe : f ≡ wordOf 4 (drop (24 + 8 * (t .header .count + t .address .count)) b)) where
-    place-of : 24 + 8 * (t .header .count + t .address .count) ≡ recordsPlace (drop 12 b)
-    unfolding frontIn
-    place-of = by-place (frontAt b) b t e z
-
-    address-of : t .address ≡ columnsIn (colsIn (drop 12 b))
-    unfolding frontIn
-    address-of = by-address (frontAt b) b t e z
-
-    header-of : t .header ≡ columnsIn (headsIn (drop 12 b))
-    unfolding frontIn
-    header-of = by-header (frontAt b) b t e z
-
     first-of : f ≡ wordOf 4 (recordsIn (drop 12 b))
-    first-of = fe ∙ rw (place-of, records-place b)
+    first-of = fe ∙ rw (front-place z, records-place b)
 
     first-at : 24 + 8 * (t .header .count + t .address .count) + f ≡ firstPlace b
-    first-at = rw (place-of, first-of)
+    first-at = rw (front-place z, first-of)
 
     pub first-fits : length b < 2 ^ 64 → Fits w64 (24 + 8 * (t .header .count + t .address .count) + f)
     first-fits k = record { fits = let l = front-whole b (sym front-verdict ∙ z) in rw first-at (omega arith) }
@@ -155,7 +156,7 @@ module _ (b : List ℕ) (t : Tables) (e : t ≡ frontIn b) where
       judge-by : judge b ≡ w
       judge-by =
           judge-front b ∙ ap (λ (v : Verdict). v then behindFront b) (sym front-verdict ∙ z)
-          ∙ sym (we ∙ ap (restIn b (24 + 8 * (t .header .count + t .address .count) + f)) address-of
+          ∙ sym (we ∙ ap (restIn b (24 + 8 * (t .header .count + t .address .count) + f)) (front-address z)
           ∙ rest-by b (24 + 8 * (t .header .count + t .address .count) + f) (colsIn (drop 12 b)) first-at refl)
 
       pub judge-rest : (r : Refusal) (u : Judgement) → w ≡ Refused r → u ≡ refusedWith r → u ≡ judgedOf b
@@ -173,6 +174,6 @@ module _ (b : List ℕ) (t : Tables) (e : t ≡ frontIn b) where
           })
           (judgedOf b)
       unfolding judgedOf
-      judge-good n y ne = rw (judge-by ∙ y, ne, first-of, place-of, header-of, address-of)
+      judge-good n y ne = rw (judge-by ∙ y, ne, first-of, front-place z, front-header z, front-address z)
 
 pub ruleset judges = (judge-stops, judge-rest, judge-good)

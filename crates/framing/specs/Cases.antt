@@ -2,7 +2,7 @@
 use Prim.Native.Nat.{ℕ, zero, suc, _+_, _-_, _*_, _^_, _≤_, _<_}
 use native.Mathlib.Omega.{arith}
 use native.Mathlib.Nat.{sub-zero}
-use mathlib.Core.Path.{_≡_, refl, sym, ap, _∙_}
+use mathlib.Core.Path.{_≡_, sym, _∙_}
 use mathlib.Core.Bool.{Bool, true, false, cond, not}
 use mathlib.Core.List.{List}
 use lib.Dec.{eqb, ltb}
@@ -11,7 +11,6 @@ use borrow.Author.Tests.{lt-ltb, le-ltb, eq-eqb, ne-eqb, ltb-true, eqb-true, eqb
 use Rattle.octets.specs.Octets.{rest-of}
 use Rattle.octets.specs.Splice.{stored}
 use Rattle.octets.specs.Word.{leOf, wordOf}
-use Rattle.serial.specs.Serial.{serialOf}
 use Rattle.answers.specs.Numbers.{outOfTurn, breaksRule, mostOctets, mostColumns, mostOpened}
 use Rattle.answers.specs.declared.Verdict.{Verdict}
 use Rattle.answers.specs.declared.Verdict.the-variants.{Clear as clear, Refused}
@@ -19,7 +18,7 @@ use Rattle.answers.specs.Verdict.{refused, _then_, need, apart, unmet, kept}
 use Rattle.answers.specs.declared.Refusal.{Refusal}
 use Rattle.presence.specs.Presence.{room, isSet}
 use Rattle.entry.specs.Slots.{keyBit}
-use Rattle.writing.specs.State.{settled, doneWith, columnsOf, tablesEnd, idleOf, withinOf, roomAt, Sane, idle-in}
+use Rattle.writing.specs.State.{settled, columnsOf, idleOf, withinOf, roomAt, Sane, idle-in}
 use Rattle.writing.specs.State.{Within, within-in, Roomy, room-in}
 use Rattle.writing.specs.declared.Writing.{Writing}
 use Rattle.writing.specs.declared.Outcome.{Outcome}

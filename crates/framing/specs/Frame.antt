@@ -4,13 +4,11 @@ use Prim.Native.Nat.{ℕ, zero, suc, _+_, _-_, _*_}
 use mathlib.Core.Bool.{Bool, true, false, cond, not}
 use mathlib.Core.List.{List}
 use lib.Dec.{eqb, ltb}
-use lib.ListN.{length, take, drop, replicate}
+use lib.ListN.{length, drop, replicate}
 use Rattle.octets.specs.Splice.{stored}
 use Rattle.octets.specs.Word.{leOf, wordOf}
-use Rattle.serial.specs.Serial.{serialOf}
 use Rattle.answers.specs.Numbers.{outOfTurn, breaksRule, mostOpened}
 use Rattle.answers.specs.declared.Verdict.{Verdict}
-use Rattle.answers.specs.declared.Verdict.the-variants.{Clear as clear}
 use Rattle.answers.specs.Verdict.{_then_, need, kept}
 use Rattle.presence.specs.Presence.{room, isSet}
 use Rattle.entry.specs.Slots.{keyBit}

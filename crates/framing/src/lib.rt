@@ -8,7 +8,6 @@ use writing::Outcome;
 use writing::Writing;
 ghost use mathlib.Core.Path.{_≡_};
 ghost use Prim.Native.Nat.{_+_, _*_, _≤_};
-ghost use lib.ListN.{length};
 ghost use Rattle.answers.specs.Numbers.{mostOctets, mostColumns, mostOpened};
 ghost use Rattle.framing.specs.Frame.{openSize, openAt, openNext, openOutcome, openOctets, keysFrom, betweenOf};
 ghost use Rattle.framing.specs.Frame.{closeAt, closeOutcome, closeOctets, finishAt, finishOutcome, finishOctets};

@@ -1,7 +1,7 @@
 -- The ways of the code that lays a front down, on plain values.
 use Prim.Native.Nat.{ℕ, _+_, _-_, _*_, _≤_, _<_}
 use native.Mathlib.Omega.{arith}
-use mathlib.Core.Path.{_≡_, refl, sym, ap, _∙_}
+use mathlib.Core.Path.{_≡_, sym, ap, _∙_}
 use mathlib.Core.List.{List, _++_}
 use lib.ListN.{length}
 use borrow.Author.Tests.{le-leb, lt-leb}
@@ -10,7 +10,7 @@ use Rattle.answers.specs.Numbers.{noRoom, mostColumns}
 use Rattle.answers.specs.declared.Verdict.{Verdict}
 use Rattle.answers.specs.declared.Verdict.the-variants.{Clear as clear, Refused}
 use Rattle.answers.specs.declared.Refusal.{Refusal}
-use Rattle.answers.specs.Verdict.{refused, _then_, need}
+use Rattle.answers.specs.Verdict.{refused, _then_}
 use Rattle.begin.specs.Begin.{startSize, beginAt, columnsFrom, startOctets, beginOctets}
 use Rattle.begin.specs.Cases.{from-long, begin-in}
 use Rattle.begin.specs.Taken.{start-long}

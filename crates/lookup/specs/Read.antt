@@ -17,7 +17,7 @@ use Rattle.entry.specs.Record.{Slot, rowOctets}
 use Rattle.entry.specs.Read.{rowIn}
 use Rattle.entry.specs.Cells.{CellOf, cellsIn, row-cell}
 use Rattle.book.specs.Rows.{rowsOctets}
-use Rattle.book.specs.Book.{Book, Sound, headSlots, rowSlots, tablesOctets, bookOctets, headsIn, colsIn, recordsIn}
+use Rattle.book.specs.Book.{Book, Sound, headSlots, rowSlots, tablesOctets, bookOctets, headsIn, colsIn}
 use Rattle.book.specs.Book.{recordsPlace, countIn, judge}
 use Rattle.book.specs.JudgeCases.{records-place, slots-head, slots-row}
 use Rattle.book.specs.Whole.{body-in}

@@ -2,27 +2,27 @@
 use Prim.Native.Nat.{ℕ, zero, suc, _+_, _-_, _*_, _%_, _<_, _≤_}
 use native.Mathlib.Omega.{arith}
 use native.Mathlib.Numerals.{add-one}
-use native.Mathlib.Nat.{sub-zero, add-zero, mul-zero}
+use native.Mathlib.Nat.{sub-zero, add-zero}
 use mathlib.Core.Path.{_≡_, refl, sym, ap, _∙_}
 use mathlib.Core.List.{List, [], _∷_, _++_}
 use lib.Bits.{bitAnd, and-mask}
 use lib.Dec.{leb}
-use lib.ListN.{length, take, drop, set, replicate, length-append, length-drop, length-replicate}
+use lib.ListN.{length, take, drop, set, length-drop}
 use lib.Seq.{drop-drop, take-at, length-take-le}
 use borrow.Author.Tests.{le-leb, lt-leb, eq-eqb, ne-eqb, leb-true}
 use Rattle.octets.specs.Word.{wordOf}
 use Rattle.answers.specs.Numbers.{cutShort, unknownType, repeatedTag, manyColumns, mostColumns}
 use Rattle.answers.specs.declared.Verdict.{Verdict}
 use Rattle.answers.specs.declared.Verdict.the-variants.{Clear as clear, Refused}
-use Rattle.answers.specs.Verdict.{refused, _then_, need, apart, unmet, no-clear}
+use Rattle.answers.specs.Verdict.{refused, _then_, need, apart, unmet}
 use Rattle.answers.specs.declared.Refusal.{Refusal}
 use Rattle.value.specs.Types.{numberOf, isType, unknownForm}
 use Rattle.table.specs.declared.Columns.{Columns}
 use Rattle.table.specs.declared.Table.{Table}
 use Rattle.table.specs.declared.Found.{Found}
 use Rattle.table.specs.declared.Found.the-variants.{At, Nothing}
-use Rattle.table.specs.Repeat.{repeatAt, repeat-is, repeatOf, foundAt, repeat-below}
-use Rattle.table.specs.Table.{Column, codeOf, rowAt, columnsAt, tableAt, columnsOf, tableOf}
+use Rattle.table.specs.Repeat.{repeat-is, repeatOf, foundAt, repeat-below}
+use Rattle.table.specs.Table.{Column, rowAt, columnsAt, tableAt, columnsOf, tableOf}
 use Rattle.answers.specs.Padded.{padded, padded-long, padded-more}
 use Rattle.table.specs.Columns.{tagsOf, bitsOf, formsOf, columnsIn, noColumns, kept, noTable, judgedTo, settled}
 use Rattle.table.specs.Columns.{tableIn, plainAt, oneMore, readTo, filledTo, agree, read-all, read-most}

@@ -1,22 +1,19 @@
 -- The columns of a table (2.9.3, 2.9.4) as arrays, and the table as it is read: two phases, joined by `agree` to the one definition of judging.
 use Prim.Native.Nat.{ℕ, zero, suc, _+_, _-_, _*_, _%_, _<_, _≤_}
 use native.Mathlib.Omega.{arith}
-use native.Mathlib.Numerals.{add-one}
-use mathlib.Core.Path.{_≡_, refl, sym, ap, _∙_}
-use mathlib.Core.Bool.{Bool, true, false, not}
-use mathlib.Core.List.{List, [], _∷_, _++_, append-assoc}
-use lib.Dec.{leb}
+use mathlib.Core.Path.{_≡_, refl, ap, _∙_}
+use mathlib.Core.Bool.{not}
+use mathlib.Core.List.{List, [], _∷_, _++_}
 use lib.ListN.{length, take, drop, replicate}
 use lib.Seq.{drop-drop}
-use borrow.Author.Tests.{le-leb, leb-true, lt-leb}
 use Rattle.octets.specs.Word.{wordOf}
-use Rattle.answers.specs.Numbers.{cutShort, unknownType, repeatedTag, manyColumns, mostColumns}
+use Rattle.answers.specs.Numbers.{repeatedTag, mostColumns}
 use Rattle.answers.specs.Padded.{padded}
 use Rattle.answers.specs.declared.Verdict.{Verdict}
 use Rattle.answers.specs.declared.Verdict.the-variants.{Clear as clear, Refused}
-use Rattle.answers.specs.Verdict.{refused, _then_, need, apart, unmet, no-clear, then-assoc}
-use Rattle.value.specs.Types.{numberOf, isType}
-use Rattle.table.specs.Repeat.{memb, repeatAt, repeat-is, repeatOf, foundAt}
+use Rattle.answers.specs.Verdict.{_then_, need, apart, then-assoc}
+use Rattle.value.specs.Types.{numberOf}
+use Rattle.table.specs.Repeat.{memb, repeatAt, repeatOf, foundAt}
 use Rattle.table.specs.Table.{Column, codeOf, rowAt, columnsAt, tableAt, columnsOf, tableOf}
 use Rattle.table.specs.declared.Columns.{Columns}
 use Rattle.table.specs.declared.Table.{Table}

@@ -2,14 +2,14 @@
 use Prim.Native.Nat.{ℕ, zero, suc, _+_, _-_, _^_, _≤_, _<_}
 use native.Mathlib.Omega.{arith}
 use native.Mathlib.Numerals.{add-one}
-use mathlib.Core.Path.{_≡_, refl, sym, ap, _∙_}
+use mathlib.Core.Path.{_≡_, refl, sym, _∙_}
 use mathlib.Core.List.{List, [], _∷_}
 use lib.ListN.{length, take, drop, getD, length-drop, drop-of-length-le}
 use lib.Seq.{drop-drop}
 use mir.Val.{Fits}
 use mir.Syntax.{w64}
 use borrow.Author.Tests.{lt-ltb, le-ltb, le-leb, lt-leb, eq-eqb, ne-eqb}
-use Rattle.octets.specs.Octets.{octetAt, rest-of}
+use Rattle.octets.specs.Octets.{rest-of}
 use Rattle.answers.specs.declared.Walk.{Walk}
 use Rattle.answers.specs.declared.Walk.the-variants.{Ends, Broken}
 use Rattle.answers.specs.Walk.{broken, onto}
@@ -20,7 +20,7 @@ use Rattle.text.specs.Narrow.{narrowOf}
 use Rattle.text.specs.Utf8.{textOf}
 use Rattle.value.specs.Types.{Kind, number, truth, narrow, text, binary, kindNumber, listForm, formsEnd}
 use Rattle.value.specs.Types.{unknownForm, kindAt, formAt, Row, types, formIn, numberOf}
-use Rattle.value.specs.Value.{counted, numericOf, truthOf, binaryOf, elementOf, listFrom, listOf, valueOf}
+use Rattle.value.specs.Value.{numericOf, truthOf, binaryOf, elementOf, listFrom, listOf, valueOf}
 use Rattle.value.specs.Within.{element-within}
 
 -- ---- the table, as the two arrays of the code

@@ -9,7 +9,7 @@ use Rattle.answers.specs.declared.Walk.the-variants.{Ends}
 use Rattle.answers.specs.Walk.{broken}
 use Rattle.whole.specs.Number.{fewest, leastOf, longNumber, numberOf as wholeOf, encodeNumber}
 use Rattle.text.specs.Utf8.{widthOf, charWidth, textFrom}
-use Rattle.value.specs.Types.{types, formIn, numberOf, formAt, formOf}
+use Rattle.value.specs.Types.{formIn, numberOf, formAt, formOf}
 use Rattle.value.specs.Value.{numericOf, binaryOf, elementOf, valueOf}
 use Rattle.value.specs.Encode.{Item, aNumber, aBinary, encodeItem}
 
