@@ -33,7 +33,8 @@ VERSION = $(shell awk '$$2 == "WT_VERSION" { n = $$3 + 0; printf "%d.%d.%d", n /
 	include/windtrellis.h)
 
 PARTS = $(patsubst oab/%.c,$(OUT)/%.o,$(wildcard oab/*.c))
-ARCHIVE = $(OUT)/libwindtrellis.a
+LIB = target/oab
+ARCHIVE = $(LIB)/libwindtrellis.a
 
 all: $(OUT)/oab
 
@@ -41,26 +42,30 @@ tools:
 	@command -v $(CC) >/dev/null || { echo "make: the C compiler $(CC) is missing" >&2; exit 1; }
 	@command -v $(AR) >/dev/null || { echo "make: the archiver $(AR) is missing (package binutils)" >&2; exit 1; }
 
-# What everything below $(OUT) was built with: another compiler, other flags or other objects build it anew.
+# What the library was built from, and the command: other objects, another compiler or other flags build it anew.
+$(LIB)/from: tools
+	@mkdir -p $(LIB)
+	@echo '$(AR) $(LIBRARY)' | cmp -s - $@ || echo '$(AR) $(LIBRARY)' >$@
+
 $(OUT)/how: tools
 	@mkdir -p $(OUT)
-	@echo '$(CC) $(CFLAGS) $(WATCH) $(LIBRARY)' | cmp -s - $@ || echo '$(CC) $(CFLAGS) $(WATCH) $(LIBRARY)' >$@
+	@echo '$(CC) $(CFLAGS) $(WATCH)' | cmp -s - $@ || echo '$(CC) $(CFLAGS) $(WATCH)' >$@
 
 ifneq ($(LIBRARY),)
-$(ARCHIVE): $(LIBRARY) $(OUT)/how
+$(ARCHIVE): $(LIBRARY) $(LIB)/from
 	rm -f $@
 	$(AR) rcs $@ $(LIBRARY)
 else
 # All is proved first, on all cores; the objects are built one after the other, since two `rt staticlib` at once disturb
 # each other's records in target/.
-$(ARCHIVE): $(shell find crates -name '*.rt' -o -name '*.antt') crates.txt $(OUT)/how
+$(ARCHIVE): $(shell find crates -name '*.rt' -o -name '*.antt') crates.txt $(LIB)/from
 	@command -v rt >/dev/null || { echo "make: rt is missing: the Rattle kit proves the library" >&2; exit 1; }
 	@echo "make: the library is proved first: about ten minutes where nothing of it is proved yet" >&2
-	(rt check $(FACES) && for f in $(FACES); do rt staticlib $$f || exit 1; done) > $(OUT)/staticlib.log 2>&1 || \
-		{ tail -n 20 $(OUT)/staticlib.log; exit 1; }
-	cd $(OUT) && for f in $(FACES); do $(AR) x ../staticlib/lib$$f.a || exit 1; done
+	(rt check $(FACES) && for f in $(FACES); do rt staticlib $$f || exit 1; done) > $(LIB)/staticlib.log 2>&1 || \
+		{ tail -n 20 $(LIB)/staticlib.log; exit 1; }
+	cd $(LIB) && for f in $(FACES); do $(AR) x ../staticlib/lib$$f.a || exit 1; done
 	rm -f $@
-	$(AR) rcs $@ $(FACES:%=$(OUT)/%.o)
+	$(AR) rcs $@ $(FACES:%=$(LIB)/%.o)
 endif
 
 $(OUT)/%.o: oab/%.c $(wildcard oab/*.h) include/windtrellis.h $(OUT)/how
@@ -70,10 +75,10 @@ $(OUT)/oab: $(ARCHIVE) $(PARTS)
 	$(CC) $(CFLAGS) $(WATCH) $(STATIC) -o $@ $(PARTS) $(ARCHIVE)
 
 # For programs that load a library, as the tests do.
-$(OUT)/libwindtrellis.so: $(ARCHIVE)
+$(LIB)/libwindtrellis.so: $(ARCHIVE)
 	$(CC) -shared -o $@ -Wl,--whole-archive $< -Wl,--no-whole-archive
 
-shared: $(OUT)/libwindtrellis.so
+shared: $(LIB)/libwindtrellis.so
 
 check:
 	LIBRARY='$(LIBRARY)' tests/run

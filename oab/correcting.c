@@ -107,7 +107,8 @@ static int finish(const struct command *c, struct opened *b, const struct octets
     if (c->options & DRY) return tell(c, old, book, changed);
     if (c->out) return save(c->out, book->at, book->length);
     if (!changed) return DONE;
-    if (!S_ISREG(b->is.st_mode)) close_book(b);
+    if (S_ISREG(b->is.st_mode)) return save(b->path, book->at, book->length);
+    close_book(b);
     return save(b->name, book->at, book->length);
 }
 

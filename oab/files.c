@@ -80,10 +80,12 @@ int open_book(struct opened *b, const char *name, int in_place)
         b->fd = 0;
         return DONE;
     }
-    if (!realpath(name, b->path) || stat(b->path, &b->is) != 0)
-        return fail(name, "can't be opened: %s", strerror(errno));
-    if (in_place && S_ISREG(b->is.st_mode)) return open_locked(b);
-    b->fd = open(b->path, O_RDONLY | O_CLOEXEC);
+    if (stat(name, &b->is) != 0) return fail(name, "can't be opened: %s", strerror(errno));
+    if (in_place && S_ISREG(b->is.st_mode)) {
+        if (!realpath(name, b->path)) return fail(name, "can't be opened: %s", strerror(errno));
+        return open_locked(b);
+    }
+    b->fd = open(name, O_RDONLY | O_CLOEXEC);
     return b->fd < 0 ? fail(name, "can't be opened: %s", strerror(errno)) : DONE;
 }
 

@@ -16,7 +16,7 @@ int read_file(const char *path, struct octets *o);
  * another. */
 struct opened {
     const char *name;    /* as the user wrote it */
-    char path[PATH_MAX]; /* with no symbolic link in it */
+    char path[PATH_MAX]; /* with no symbolic link in it, where it is locked */
     struct stat is;
     int fd;
 };

@@ -162,7 +162,8 @@ static int fits(const struct command *c, const struct entry *e)
     return DONE;
 }
 
-/* Lines that are printed go to standard output, or with -o to a file, saved whole. */
+/* Lines that are printed go to standard output, or with -o to a file, saved whole; where there is nothing to say, or it
+ * is refused, the file stays as it is. The verdict of check is a result, too, where it is a refusal. */
 static int run(struct command *c, const struct entry *e)
 {
     char *text = NULL;
@@ -175,10 +176,11 @@ static int run(struct command *c, const struct entry *e)
     if (lines) {
         closed = fclose(c->to);
         if (closed != 0) result = fail(c->out, "%s", strerror(errno));
-        else if (result != FAILED) result = save(c->out, (uint8_t *)text, n) == DONE ? result : FAILED;
+        else if (result == DONE || (result == REFUSED && e->run == run_check))
+            result = save(c->out, (uint8_t *)text, n) == DONE ? result : FAILED;
     }
     free(text);
-    return result;
+    return result == ABSENT && !(c->options & EXIT) ? DONE : result;
 }
 
 static int choose(struct command *c)

@@ -259,7 +259,7 @@ int run_get(const struct command *c)
             result = refuse(c->words[0], answer, found.place, wt_words(answer));
         } else if (!found.present) {
             note(c->words[0], "absent");
-            if (c->options & EXIT) result = ABSENT;
+            result = ABSENT;
         } else if (c->options & RAW) {
             result = save(c->out ? c->out : "-", book.at + found.start, (size_t)(found.end - found.start));
         } else {

@@ -110,10 +110,11 @@ static int keep_attributes(const char *path, const char *old, int fd)
 {
     ssize_t n = listxattr(old, NULL, 0), at;
     char *names;
-    int good = 1;
-    if (n <= 0) return 1;
-    names = malloc((size_t)n);
-    n = names ? listxattr(old, names, (size_t)n) : 0;
+    int good;
+    if (n == 0 || (n < 0 && (errno == ENOTSUP || errno == ENOSYS))) return 1;
+    names = malloc(n > 0 ? (size_t)n : 1);
+    good = n > 0 && names && (n = listxattr(old, names, (size_t)n)) >= 0;
+    if (!good) fail(path, "can't keep the file's attributes: %s", strerror(errno));
     for (at = 0; good && at < n; at += (ssize_t)strlen(names + at) + 1)
         good = keep_attribute(path, old, fd, names + at);
     free(names);

@@ -7,6 +7,7 @@ Ends with "N runs, 0 differ". Files: oab_files.py and oab_load.py; spelling: oab
 import json
 import os
 import random
+import re
 
 import oab_tools
 from oab_tools import TOP, content, differs, run, says
@@ -253,5 +254,26 @@ def helping(folder):
     differs('--version', (0, f'oab {own}, library {own}\n'.encode(), b''), run('--version'))
 
 
+def told_alike(folder):
+    """The help, the man page, the completion and docs/OAB.md tell of the same commands, options and names."""
+    page = (TOP / 'oab/oab.1').read_text().replace('\\-', '-')
+    completion, manual = (TOP / 'oab/completion.bash').read_text(), (TOP / 'docs/OAB.md').read_text()
+    commands = re.findall(r'^  oab (\w+) ', run('--help')[1].decode(), re.M)
+    differs('commands of the completion', commands, re.search(r'_oab_commands="(.*)"', completion)[1].split())
+    differs('commands of the man page', commands, re.findall(r'^\.B oab (\w+)$', page, re.M))
+    differs('commands of docs/OAB.md', commands, re.findall(r'^\| `oab (\w+) ', manual, re.M))
+    differs('names of the completion', list(NAMES.values()), re.search(r'_oab_names="([^"]*)"', completion)[1].split())
+    differs('names of the man page', [(hex_tag(tag), name) for tag, name in NAMES.items()],
+            re.findall(r'^([0-9A-F]{8}) (\w+)$', page, re.M))
+    for command in commands:
+        options = set(re.findall(r'^  (--?\w+) ', run(command, '--help')[1].decode(), re.M))
+        where = re.findall(r'^\| `(--?\w+)[^|]*\| ([^|]*) \|', manual, re.M)
+        told = {option for option, of in where if of == 'all' or f'`{command}`' in of}
+        differs(('options in docs/OAB.md', command), options, told)
+        line = rf'^    (?:\w+ \| )*{command}(?: \| \w+)*\) options="?([^";]*)"? ;;'
+        told = set(re.search(line, completion, re.M)[1].replace('$all', '-o -q').split())
+        differs(('options in the completion', command), options, told)
+
+
 if __name__ == '__main__':
-    oab_tools.main(reading, names, correcting, usage, refusals_in_words, anywhere, helping)
+    oab_tools.main(reading, names, correcting, usage, refusals_in_words, anywhere, helping, told_alike)

@@ -70,6 +70,16 @@ def elsewhere(folder):
     differs('the book itself', (0, WITH_Q), (set_q(book, '-o', book)[0], content(book)))
     differs('lines', (0, b'', b'Q\n', 0o600), (*run('get', book, 0, '3001001F', '-o', folder / 'lines')[:2],
                                             content(folder / 'lines'), mode_of(folder / 'lines')))
+    put(book)
+    old = put(folder / 'old', b'old')
+    for status, words in ((1, ('get', book, 9, '3001001F')), (1, ('show', book, 9)), (0, ('get', book, 0, '3001001F')),
+                          (3, ('get', '-e', book, 0, '3001001F')), (2, ('get', folder / 'missing', 0, '3001001F'))):
+        differs(('no lines, no file', words), (status, b'old'), (run(*words, '-o', old)[0], content(old)))
+    differs('a bad verdict is a result', (1, True),
+            (run('check', '--json', '-', '-o', old)[0], content(old).startswith(b'{"book":"-","good":false')))
+    with open(book, 'rb') as book_again:
+        got = run('set', '/dev/stdin', 0, '3001001F', 'Q', '-o', out, stdin=book_again.read())
+        differs('a book from a pipe by its name', (0, WITH_Q), (got[0], content(out)))
     if os.geteuid() == 0:
         put(out, b'old', 0o640)
         os.chown(out, NOBODY, NOBODY)

@@ -136,5 +136,25 @@ def installed(folder):
     differs('and it runs', (0, b'1 2', b''), sh(program))
 
 
+COMPLETE = '''compopt() { :; }
+. oab/completion.bash
+COMP_WORDS=("$@")
+COMP_CWORD=$(($# - 1))
+_oab
+printf '%s ' "${COMPREPLY[@]}"
+'''
+
+
+def completion(folder):
+    """What bash completes of a line."""
+    if not shutil.which('bash'):
+        print('no bash here: its completion is not tried')
+        return
+    for words, want in (('oab se', 'set '), ('oab get b 0 DisplayN', 'DisplayName '), ('oab get b he', 'header '),
+                        ('oab set -o out b 0 Smtp', 'SmtpAddress '), ('oab columns --', '--help --json --names '),
+                        ('oab check examples/small.b', 'examples/small.book '), ('oab set --n', ' ')):
+        differs(words, (0, want.encode(), b''), sh('bash', '-c', COMPLETE, 'bash', *words.split(), cwd=TOP))
+
+
 if __name__ == '__main__':
-    oab_tools.main(listing, command, first_runs, make_speaks, installed)
+    oab_tools.main(listing, command, first_runs, make_speaks, installed, completion)
