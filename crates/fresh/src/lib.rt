@@ -6,7 +6,8 @@ ghost use mathlib.Core.Path.{_≡_};
 ghost use lib.ListN.{length};
 ghost use Rattle.fresh.specs.Fresh.{layAt, layOctets};
 
-// The front: the tables of these columns, their unused flag bits zero, then the header record `head`. Where begin does not
+// The front: the tables of these columns, their unused flag bits zero, then the header record `head`. Where begin does
+// not
 // take the tables, or the front has no room, nothing changes.
 pub fn lay_front(
     out: &mut [u8],
