@@ -80,6 +80,9 @@ $(LIB)/libwindtrellis.so: $(ARCHIVE)
 
 shared: $(LIB)/libwindtrellis.so
 
+faces:
+	@echo $(FACES)
+
 check:
 	LIBRARY='$(LIBRARY)' tests/run
 
@@ -99,4 +102,4 @@ install: all
 clean:
 	rm -rf target/oab target/sanitized
 
-.PHONY: all tools shared check install clean
+.PHONY: all tools shared faces check install clean
