@@ -53,7 +53,10 @@ static void insert(struct subject *s, int side) {
     wt_length out;
     struct corrected c = {0, 0};
     if (side == PLAIN) c = plain_insert(s->copy[side], s->room, s->length[side], 0, s->record, s->record_size);
-    else c.number = wt_insert(s->copy[side], s->room, s->length[side], 0, s->record, s->record_size, &out), c.answer = out.length;
+    else {
+        c.number = wt_insert(s->copy[side], s->room, s->length[side], 0, s->record, s->record_size, &out);
+        c.answer = out.length;
+    }
     done(c.number);
     s->length[side] = c.answer;
 }
@@ -62,7 +65,10 @@ static void take_out(struct subject *s, int side) {
     wt_length out;
     struct corrected c = {0, 0};
     if (side == PLAIN) c = plain_delete(s->copy[side], s->room, s->length[side], 0);
-    else c.number = wt_delete(s->copy[side], s->room, s->length[side], 0, &out), c.answer = out.length;
+    else {
+        c.number = wt_delete(s->copy[side], s->room, s->length[side], 0, &out);
+        c.answer = out.length;
+    }
     done(c.number);
     s->length[side] = c.answer;
 }
@@ -73,8 +79,13 @@ static void perform(struct subject *s, enum work w, int side) {
     wt_found found;
     switch (w) {
     case SERIAL: sink = side == PLAIN ? plain_serial_table(b->octets, b->length) : wt_serial(b->octets, b->length); break;
-    case JUDGE: sink = side == PLAIN ? plain_judge(b->octets, b->length).number : wt_judge(b->octets, b->length, &out); break;
-    case LOOKUP: sink = side == PLAIN ? plain_lookup(b->octets, b->length, b->records - 1, b->tag).end : wt_lookup(b->octets, b->length, b->records - 1, b->tag, &found); break;
+    case JUDGE:
+        sink = side == PLAIN ? plain_judge(b->octets, b->length).number : wt_judge(b->octets, b->length, &out);
+        break;
+    case LOOKUP:
+        if (side == PLAIN) sink = plain_lookup(b->octets, b->length, b->records - 1, b->tag).end;
+        else sink = wt_lookup(b->octets, b->length, b->records - 1, b->tag, &found);
+        break;
     case GROW: set(s, side, s->large, s->large_size); break;
     case SHRINK: set(s, side, s->small, s->small_size); break;
     case INSERT: insert(s, side); break;

@@ -77,7 +77,8 @@ struct replay replay_of(const struct book *b) {
 
 uint32_t replay_library(const struct replay *r, uint8_t *buf, size_t room) {
     wt_writing st;
-    uint32_t number = wt_begin(&st, r->tags[0], r->columns[0], r->flags[0], r->columns[0], r->tags[1], r->columns[1], r->flags[1], r->columns[1], buf, room);
+    uint32_t number = wt_begin(&st, r->tags[0], r->columns[0], r->flags[0], r->columns[0], r->tags[1], r->columns[1],
+        r->flags[1], r->columns[1], buf, room);
     for (size_t i = 0; number == 0 && i < r->count; i++) {
         const struct step *s = &r->steps[i];
         switch (s->what) {

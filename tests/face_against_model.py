@@ -1,10 +1,10 @@
 """Drives the C face (include/windtrellis.h) beside the model and compares every answer, every number and every octet.
 
-Run from the top: python3 tests/face_against_model.py [SEED]. The library is that of `make shared`; where the environment says
-LIBRARY='a.o b.o ..', it is one linked of these objects, as for a machine that the kit doesn't compile for. The calls are those of
-make.py's streams made anew with other seeds: judging and columns, lookups, writings, corrections; then serials of any octets. Each is
-made on the model and on the library, from the same octets. Writings also get another buffer between the calls: larger, smaller,
-elsewhere. Ends with "N calls, 0 differ".
+Run from the top: python3 tests/face_against_model.py [SEED]. The library is that of `make shared`; where the
+environment says LIBRARY='a.o b.o ..', it is one linked of these objects, as for a machine that the kit doesn't compile
+for. The calls are those of make.py's streams made anew with other seeds: judging and columns, lookups, writings,
+corrections; then serials of any octets. Each is made on the model and on the library, from the same octets. Writings
+also get another buffer between the calls: larger, smaller, elsewhere. Ends with "N calls, 0 differ".
 """
 
 import ctypes
@@ -46,7 +46,8 @@ class Numbers(ctypes.Structure):
 
     def __init__(self):
         super().__init__()
-        ctypes.memmove(ctypes.addressof(self), SHIM.to_bytes(8, 'little') * (ctypes.sizeof(self) // 8), ctypes.sizeof(self))
+        size = ctypes.sizeof(self)
+        ctypes.memmove(ctypes.addressof(self), SHIM.to_bytes(8, 'little') * (size // 8), size)
 
     def list(self):
         return list((ctypes.c_uint64 * (ctypes.sizeof(self) // 8)).from_buffer_copy(self))
@@ -184,7 +185,8 @@ class FaceWriting(make.WritingStream):
         if answer[0] == 'done':
             compare(payload[:9], (0, 0, answer[1], bytes(self.buffer)), got)
         else:
-            compare(payload[:9], (answer[1], answer[2], before[1], bytes(self.buffer)) + tuple(before[2:]), got + tuple(self.state.rest))
+            want = (answer[1], answer[2], before[1], bytes(self.buffer)) + tuple(before[2:])
+            compare(payload[:9], want, got + tuple(self.state.rest))
         return answer
 
     def perform_on_library(self, what, rest):
