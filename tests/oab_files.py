@@ -184,6 +184,22 @@ def hostile(folder):
             differs(('a full output', words), (2, True), (got.returncode, b'standard output' in got.stderr))
 
 
+def closed(folder):
+    """Standard input, output and error may be closed: no word goes into the book that is opened next."""
+    book = put(folder / 'book')
+    for descriptors in ((2,), (1, 2), (0, 1, 2), (1,), (0,)):
+        def close(these=descriptors):
+            for number in these:
+                os.close(number)
+
+        got = run('set', book, 9, '3001001F', 'Q', preexec_fn=close)
+        differs(('refused', descriptors), (1, SMALL), (got[0], content(book)))
+        got = run('list', book, preexec_fn=close)
+        differs(('listed', descriptors), (2 if 1 in descriptors else 0, SMALL), (got[0], content(book)))
+        differs(('set', descriptors), (0, WITH_Q), (set_q(book, preexec_fn=close)[0], content(book)))
+        put(book)
+
+
 def little_memory(folder):
     """A small book takes little memory, also where it is corrected."""
     if 'sanitized' in os.environ.get('OAB', '') or not oab_tools.is_native(oab_tools.program):
@@ -198,4 +214,4 @@ def little_memory(folder):
 
 
 if __name__ == '__main__':
-    oab_tools.main(in_place, elsewhere, straight, kept, hostile, little_memory)
+    oab_tools.main(in_place, elsewhere, straight, kept, hostile, closed, little_memory)
