@@ -3,11 +3,12 @@
 #define OAB_FILES_H
 
 #include "octets.h"
+#include "windtrellis.h"
 #include <limits.h>
 #include <sys/stat.h>
 
 /* One octet more than the limit is read, so that the library can say that a book is too long. */
-#define MOST_READ ((size_t)16777216 + 1)
+#define MOST_READ ((size_t)WT_MOST_OCTETS + 1)
 
 /* Standard input, output and error that are closed become ones that nothing can be written to: a book that is opened
  * later must not take their place. */
