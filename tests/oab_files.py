@@ -106,6 +106,13 @@ def straight(folder):
     if stat.S_ISFIFO(os.lstat(pipe).st_mode):
         differs('BOOK is a pipe', WITH_Q, pipe.read_bytes())
     differs('BOOK is still a pipe', (0, True), (command.wait(20), stat.S_ISFIFO(os.lstat(pipe).st_mode)))
+    out = folder / 'out'
+    with open(out, 'wb') as to:
+        to.write(b'front')
+        to.flush()
+        got = subprocess.run([oab_tools.program, 'set', '-o', '/dev/stdout', str(book), '0', '3001001F', 'Q'],
+                             stdout=to)
+    differs('-o /dev/stdout', (0, b'front' + WITH_Q), (got.returncode, content(out)))
     device = folder / 'null'
     if os.geteuid() == 0:                      # a device of our own: the machine's may not be risked
         try:
@@ -115,13 +122,6 @@ def straight(folder):
             print('no devices can be made here: -o DEVICE is not tried')
             return
         differs('-o DEVICE', (0, True), (set_q(book, '-o', device)[0], stat.S_ISCHR(os.lstat(device).st_mode)))
-    out = folder / 'out'
-    with open(out, 'wb') as to:
-        to.write(b'front')
-        to.flush()
-        got = subprocess.run([oab_tools.program, 'set', '-o', '/dev/stdout', str(book), '0', '3001001F', 'Q'],
-                             stdout=to)
-    differs('-o /dev/stdout', (0, b'front' + WITH_Q), (got.returncode, content(out)))
 
 
 def kept(folder):
