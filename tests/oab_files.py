@@ -4,11 +4,15 @@ Run from the top: python3 tests/oab_files.py. Ends with "N runs, 0 differ". Sign
 at once: oab_load.py.
 """
 
+import fcntl
 import os
 import resource
 import stat
 import subprocess
+import sys
+import termios
 import threading
+import time
 
 import oab_tools
 from oab_tools import NOBODY, as_nobody, content, differs, run
@@ -87,6 +91,19 @@ def elsewhere(folder):
         differs('the owner', (NOBODY, NOBODY, 0o640), (os.stat(out).st_uid, os.stat(out).st_gid, mode_of(out)))
 
 
+def waiting_in(pipe, count):
+    """What stands in a pipe once it is that many octets; less would be taken from the command, which reads it, too."""
+    end = os.open(pipe, os.O_RDONLY | os.O_NONBLOCK)
+    deadline, there = time.monotonic() + 20, bytearray(4)
+    while int.from_bytes(there, sys.byteorder) != count and time.monotonic() < deadline:
+        time.sleep(0.01)
+        if stat.S_ISFIFO(os.fstat(end).st_mode):
+            fcntl.ioctl(end, termios.FIONREAD, there)
+    octets = os.read(end, 2 * count)
+    os.close(end)
+    return octets
+
+
 def straight(folder):
     """Devices and pipes are written straight, and stay what they are."""
     book, pipe = put(folder / 'book'), folder / 'pipe'
@@ -103,8 +120,7 @@ def straight(folder):
     writer.start()
     command = subprocess.Popen([oab_tools.program, 'set', str(pipe), '0', '3001001F', 'Q'])
     writer.join(20)
-    if stat.S_ISFIFO(os.lstat(pipe).st_mode):
-        differs('BOOK is a pipe', WITH_Q, pipe.read_bytes())
+    differs('BOOK is a pipe', WITH_Q, waiting_in(pipe, len(WITH_Q)))
     differs('BOOK is still a pipe', (0, True), (command.wait(20), stat.S_ISFIFO(os.lstat(pipe).st_mode)))
     out = folder / 'out'
     with open(out, 'wb') as to:
