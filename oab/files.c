@@ -8,6 +8,14 @@
 #include <sys/file.h>
 #include <unistd.h>
 
+void keep_standard_files(void)
+{
+    int fd;
+    do fd = open("/dev/null", O_RDONLY);
+    while (fd >= 0 && fd <= 2);
+    if (fd > 2) close(fd);
+}
+
 /* Up to MOST_READ octets, read to the end: a file that is cut meanwhile is read as far as it goes. Room is taken by the
  * file's size, and grows where there is none or more comes. */
 static int read_all(int fd, struct octets *o)
@@ -27,6 +35,7 @@ static int read_all(int fd, struct octets *o)
         }
         if (n == 0) break;
         o->length += (size_t)n;
+        chunk = 1 << 16;
     }
     return grow(o, 1);
 }

@@ -3,11 +3,16 @@
 #define OAB_FILES_H
 
 #include "octets.h"
+#include "windtrellis.h"
 #include <limits.h>
 #include <sys/stat.h>
 
 /* One octet more than the limit is read, so that the library can say that a book is too long. */
-#define MOST_READ ((size_t)16777216 + 1)
+#define MOST_READ ((size_t)WT_MOST_OCTETS + 1)
+
+/* Standard input, output and error that are closed become ones that nothing can be written to: a book that is opened
+ * later must not take their place. */
+void keep_standard_files(void);
 
 /* Each says what is wrong and answers FAILED, or DONE. The path - is standard input. */
 int read_file(const char *path, struct octets *o);

@@ -2,6 +2,7 @@
  * is decided by the proved library alone (include/windtrellis.h); the files here read and save files, and turn values
  * into words and words into values. This one takes the command line apart, and has the help. */
 #include "commands.h"
+#include "files.h"
 #include "saving.h"
 #include "windtrellis.h"
 #include "words.h"
@@ -214,8 +215,10 @@ int main(int argc, char **argv)
 {
     struct command c = { 0 };
     char **words = calloc((size_t)argc + 1, sizeof *words);
-    int result = words ? DONE : fail("oab", "%s", strerror(errno));
+    int result;
+    keep_standard_files();
     mind_signals();
+    result = words ? DONE : fail("oab", "%s", strerror(errno));
     c.words = words;
     if (result == DONE) result = take_options(&c, argc, argv);
     if (result == DONE) result = choose(&c);

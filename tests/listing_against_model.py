@@ -2,7 +2,8 @@
 
 What: bin/listing is run on every tenth book of the stream of judge_cases, good and refused, on the
 examples and on books at the greatest length that it takes; what it prints must be what the model's
-listing gives. Why by hand: a program of the gate is run once, on one file, and the listing reads one book.
+listing gives, and its exit status 0 or, for a refusal, 1. Why by hand: a program of the gate is run once,
+on one file, and the listing reads one book.
 """
 
 import subprocess
@@ -50,11 +51,12 @@ def main():
     answers, differ = Counter(), 0
     for name, book in all_books():
         expected = oab.listing(book).encode()
-        printed = subprocess.run([TOP / 'bin/listing'], input=book, stdout=subprocess.PIPE).stdout
+        got = subprocess.run([TOP / 'bin/listing'], input=book, stdout=subprocess.PIPE)
+        printed, status = got.stdout, 1 if expected.startswith(b'refused') else 0
         answers[' '.join(expected.decode().split()[:2]) if expected.startswith(b'refused') else 'good'] += 1
-        if printed != expected:
+        if (printed, got.returncode) != (expected, status):
             differ += 1
-            print(f'{name}: {book.hex(" ")}\n  printed  {printed}\n  expected {expected}')
+            print(f'{name}: {book.hex(" ")}\n  printed  {printed} {got.returncode}\n  expected {expected} {status}')
     print(f'{sum(answers.values())} books, {differ} differ:', dict(sorted(answers.items())))
     sys.exit(1 if differ else 0)
 

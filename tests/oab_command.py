@@ -52,6 +52,17 @@ def objects(got):
     return got[0], [json.loads(line) for line in got[1].decode().splitlines()]
 
 
+def listed_objects(octets):
+    """What `list --json` says, from the model's listing."""
+    lines = [line.split() for line in oab.listing(octets).splitlines()]
+    numbers = [int(n) for n in lines[0][1:]]
+    found = [dict(zip(('octets', 'header_columns', 'address_columns', 'records'), numbers))]
+    for word, *rest in lines[1:]:
+        record = 'header' if word == 'header' else int(rest.pop(0))
+        found.append({'record': record, **dict(zip(('place', 'size', 'values'), map(int, rest)))})
+    return found
+
+
 def of_book(path, octets, table):
     """check, list and columns of one book, good or not."""
     answer = oab.judge(octets)
@@ -65,6 +76,7 @@ def of_book(path, octets, table):
     says('columns --names', path, answer, run('columns', path, '--names'), named)
     status, found = objects(run('check', '--json', path))
     if answer[0] == 'good':
+        differs('list --json', (0, listed_objects(octets)), objects(run('list', '--json', path)))
         want = (0, [{'book': str(path), 'good': True, 'octets': len(octets), 'records': len(table[3])}])
     else:
         words = run('check', path)[2].decode().split(': ', 3)[3].rstrip('\n')

@@ -4,11 +4,15 @@ Run from the top: python3 tests/oab_files.py. Ends with "N runs, 0 differ". Sign
 at once: oab_load.py.
 """
 
+import fcntl
 import os
 import resource
 import stat
 import subprocess
+import sys
+import termios
 import threading
+import time
 
 import oab_tools
 from oab_tools import NOBODY, as_nobody, content, differs, run
@@ -87,6 +91,19 @@ def elsewhere(folder):
         differs('the owner', (NOBODY, NOBODY, 0o640), (os.stat(out).st_uid, os.stat(out).st_gid, mode_of(out)))
 
 
+def waiting_in(pipe, count):
+    """What stands in a pipe once it is that many octets; less would be taken from the command, which reads it, too."""
+    end = os.open(pipe, os.O_RDONLY | os.O_NONBLOCK)
+    deadline, there = time.monotonic() + 20, bytearray(4)
+    while int.from_bytes(there, sys.byteorder) != count and time.monotonic() < deadline:
+        time.sleep(0.01)
+        if stat.S_ISFIFO(os.fstat(end).st_mode):
+            fcntl.ioctl(end, termios.FIONREAD, there)
+    octets = os.read(end, 2 * count)
+    os.close(end)
+    return octets
+
+
 def straight(folder):
     """Devices and pipes are written straight, and stay what they are."""
     book, pipe = put(folder / 'book'), folder / 'pipe'
@@ -103,9 +120,15 @@ def straight(folder):
     writer.start()
     command = subprocess.Popen([oab_tools.program, 'set', str(pipe), '0', '3001001F', 'Q'])
     writer.join(20)
-    if stat.S_ISFIFO(os.lstat(pipe).st_mode):
-        differs('BOOK is a pipe', WITH_Q, pipe.read_bytes())
+    differs('BOOK is a pipe', WITH_Q, waiting_in(pipe, len(WITH_Q)))
     differs('BOOK is still a pipe', (0, True), (command.wait(20), stat.S_ISFIFO(os.lstat(pipe).st_mode)))
+    out = folder / 'out'
+    with open(out, 'wb') as to:
+        to.write(b'front')
+        to.flush()
+        got = subprocess.run([oab_tools.program, 'set', '-o', '/dev/stdout', str(book), '0', '3001001F', 'Q'],
+                             stdout=to)
+    differs('-o /dev/stdout', (0, b'front' + WITH_Q), (got.returncode, content(out)))
     device = folder / 'null'
     if os.geteuid() == 0:                      # a device of our own: the machine's may not be risked
         try:
@@ -115,13 +138,6 @@ def straight(folder):
             print('no devices can be made here: -o DEVICE is not tried')
             return
         differs('-o DEVICE', (0, True), (set_q(book, '-o', device)[0], stat.S_ISCHR(os.lstat(device).st_mode)))
-    out = folder / 'out'
-    with open(out, 'wb') as to:
-        to.write(b'front')
-        to.flush()
-        got = subprocess.run([oab_tools.program, 'set', '-o', '/dev/stdout', str(book), '0', '3001001F', 'Q'],
-                             stdout=to)
-    differs('-o /dev/stdout', (0, b'front' + WITH_Q), (got.returncode, content(out)))
 
 
 def kept(folder):
@@ -184,6 +200,22 @@ def hostile(folder):
             differs(('a full output', words), (2, True), (got.returncode, b'standard output' in got.stderr))
 
 
+def closed(folder):
+    """Standard input, output and error may be closed: no word goes into the book that is opened next."""
+    book = put(folder / 'book')
+    for descriptors in ((2,), (1, 2), (0, 1, 2), (1,), (0,)):
+        def close(these=descriptors):
+            for number in these:
+                os.close(number)
+
+        got = run('set', book, 9, '3001001F', 'Q', preexec_fn=close)
+        differs(('refused', descriptors), (1, SMALL), (got[0], content(book)))
+        got = run('list', book, preexec_fn=close)
+        differs(('listed', descriptors), (2 if 1 in descriptors else 0, SMALL), (got[0], content(book)))
+        differs(('set', descriptors), (0, WITH_Q), (set_q(book, preexec_fn=close)[0], content(book)))
+        put(book)
+
+
 def little_memory(folder):
     """A small book takes little memory, also where it is corrected."""
     if 'sanitized' in os.environ.get('OAB', '') or not oab_tools.is_native(oab_tools.program):
@@ -198,4 +230,4 @@ def little_memory(folder):
 
 
 if __name__ == '__main__':
-    oab_tools.main(in_place, elsewhere, straight, kept, hostile, little_memory)
+    oab_tools.main(in_place, elsewhere, straight, kept, hostile, closed, little_memory)
