@@ -35,7 +35,7 @@ use Rattle.corrected.specs.Buffer.{buffer-same}
 use Rattle.corrected.specs.Named.{row-sound, slots-reach}
 use Rattle.corrected.specs.Call.{BookIn}
 use Rattle.corrected.specs.Set.{SetMay, set-book, set-clear, set-answered}
-use Rattle.corrected.specs.Handed.{value, absent, refused, handedBy, handedOf, entryOn, handedIn, handed-is, handed-past}
+use Rattle.corrected.specs.Handed.{refused, handedBy, handedOf, entryOn, handedIn, handed-is, handed-past}
 
 -- ---- a refused call
 

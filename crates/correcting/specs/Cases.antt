@@ -6,7 +6,7 @@ use mathlib.Core.Path.{_≡_, refl, sym, ap, _∙_}
 use mathlib.Core.Bool.{Bool, true, false, not}
 use mathlib.Core.Option.{Option}
 use mathlib.Core.List.{List, []}
-use lib.ListN.{length, getD, take, drop, replicate, length-append, length-drop}
+use lib.ListN.{length, getD, take, drop, length-drop}
 use lib.Seq.{getD-drop, drop-drop, length-take-le}
 use borrow.Author.Tests.{le-leb, lt-leb, lt-ltb, le-ltb, ltb-true, eq-eqb, ne-eqb}
 use Rattle.octets.specs.Word.{leOf, wordOf, length-leOf}
@@ -21,7 +21,7 @@ use Rattle.presence.specs.Presence.{room}
 use Rattle.value.specs.Types.{formAt}
 use Rattle.value.specs.Value.{valueOf}
 use Rattle.table.specs.Table.{Column}
-use Rattle.table.specs.Columns.{tagsOf, bitsOf, columnsIn, bits-long}
+use Rattle.table.specs.Columns.{tagsOf, columnsIn}
 use Rattle.table.specs.declared.Found.{Found}
 use Rattle.table.specs.declared.Found.the-variants.{At, Nothing}
 use Rattle.table.specs.Found.{isFound, columnOf}

@@ -1,7 +1,6 @@
 -- Records put in place of others, as books: the octets of the new book are those of the old one with a part replaced, count and serial worked out again.
 -- One law for any number of records taken out and put in; replacing, inserting and deleting one record are cases of it.
 use Prim.Native.Nat.{ℕ, zero, suc, _+_, _-_, _≤_, _<_}
-use native.Mathlib.Nat.{add-zero}
 use native.Mathlib.Numerals.{add-one}
 use native.Mathlib.Omega.{arith}
 use mathlib.Core.Path.{_≡_, refl, sym, ap, ap₂, _∙_}
@@ -161,18 +160,3 @@ book-replaced k r b h =
     let n = edited-length k 1 (r ∷ []) (b .rows) (omega arith) in
     let c : length (edited k 1 (r ∷ []) (b .rows)) ≡ length (b .rows) = omega arith in
     book-edited k 1 (r ∷ []) b ∙ ap₂ (λ (n : ℕ) (l : List ℕ). resealed n (put (placeOf b k) (placeOf b (k + 1)) l (bookOctets b))) c (one-row r)
-
-pub book-inserted : (k : ℕ) (r : Row) (b : Book) → k ≤ length (b .rows)
-    → bookOctets (edit k 0 (r ∷ []) b) ≡ resealed (length (b .rows) + 1) (put (placeOf b k) (placeOf b k) (rowOctets r) (bookOctets b))
-book-inserted k r b h =
-    let n = edited-length k 0 (r ∷ []) (b .rows) (omega arith) in
-    let c : length (edited k 0 (r ∷ []) (b .rows)) ≡ length (b .rows) + 1 = omega arith in
-    book-edited k 0 (r ∷ []) b ∙ ap₂ (λ (n : ℕ) (l : List ℕ). resealed n (put (placeOf b k) (placeOf b (k + 0)) l (bookOctets b))) c (one-row r)
-    ∙ ap (λ (i : ℕ). resealed (length (b .rows) + 1) (put (placeOf b k) (placeOf b i) (rowOctets r) (bookOctets b))) (add-zero k)
-
-pub book-deleted : (k : ℕ) (b : Book) → k < length (b .rows)
-    → bookOctets (edit k 1 [] b) ≡ resealed (length (b .rows) - 1) (put (placeOf b k) (placeOf b (k + 1)) [] (bookOctets b))
-book-deleted k b h =
-    let n = edited-length k 1 [] (b .rows) (omega arith) in
-    let c : length (edited k 1 [] (b .rows)) ≡ length (b .rows) - 1 = omega arith in
-    book-edited k 1 [] b ∙ ap (λ (n : ℕ). resealed n (put (placeOf b k) (placeOf b (k + 1)) [] (bookOctets b))) c

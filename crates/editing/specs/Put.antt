@@ -11,7 +11,7 @@ use Rattle.answers.specs.declared.Walk.the-variants.{Ends, Broken}
 use Rattle.presence.specs.Presence.{room, isSet, setBit, clearBit}
 use Rattle.value.specs.Value.{valueOf}
 use Rattle.entry.specs.Record.{Slot, presentIn, valuesIn}
-use Rattle.book.specs.Book.{sealed, headSlots, rowSlots, headsIn, colsIn, recordsPlace, countIn}
+use Rattle.book.specs.Book.{sealed, headSlots, rowSlots, headsIn, colsIn, countIn}
 use Rattle.lookup.specs.Named.{startFor}
 use Rattle.lookup.specs.Places.{placeIn}
 use Rattle.entry.specs.Values.{entryOctets}

@@ -6,14 +6,12 @@ use native.Mathlib.Omega.{arith}
 use mathlib.Core.Path.{_≡_, sym, ap, _∙_}
 use mathlib.Core.List.{List, [], _∷_}
 use lib.ListN.{length}
-use Rattle.octets.specs.Octets.{Octets}
 use Rattle.answers.specs.Numbers.{mostOctets, mostRecords}
-use Rattle.answers.specs.declared.Verdict.the-variants.{Clear as clear}
 use Rattle.entry.specs.Present.{Row}
 use Rattle.entry.specs.Record.{rowOctets, SoundRow}
 use Rattle.book.specs.Rows.{rowsOctets, SoundRows}
-use Rattle.book.specs.Book.{Book, Sound, rowSlots, bookOctets, countIn, judge}
-use Rattle.book.specs.Whole.{count-in, judge-sound}
+use Rattle.book.specs.Book.{Book, Sound, rowSlots, bookOctets, countIn}
+use Rattle.book.specs.Whole.{count-in}
 use Rattle.lookup.specs.Places.{placeOf, placeIn, place-in, rowAt}
 use Rattle.editing.specs.Put.{correctedOf}
 use Rattle.editing.specs.Edit.{edited, edit, edited-length, edit-sound, edit-length, book-edited, one-row, place-next}
@@ -45,10 +43,6 @@ corrected-long k m news xs b r s h =
     let z = ap length comes in
     let w = ap length r in
     omega arith
-
-pub corrected-length : (k m : ℕ) (news : List Row) (xs : List ℕ) → Octets xs → judge xs ≡ clear → k + m ≤ countIn xs
-    → length (correctedOf k m (length news) (rowsOctets news) xs) + placeIn xs (k + m) ≡ length xs + (placeIn xs k + length (rowsOctets news))
-corrected-length k m news xs o e h = let b = judge-sound xs o e in corrected-long k m news xs (b .book) (b .reads) (b .sound) h
 
 -- ---- one record put in before record k
 

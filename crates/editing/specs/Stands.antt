@@ -2,7 +2,7 @@
 use Prim.Native.Nat.{ℕ, zero, suc, _+_, _-_, _≤_, _<_}
 use native.Mathlib.Omega.{arith}
 use native.Mathlib.Numerals.{add-one}
-use mathlib.Core.Path.{_≡_, refl, sym, ap, _∙_}
+use mathlib.Core.Path.{_≡_, refl, _∙_}
 use mathlib.Core.List.{List}
 use lib.Dec.{ltb, leb}
 use lib.ListN.{length, drop, length-drop}
@@ -15,7 +15,7 @@ use Rattle.answers.specs.Verdict.{need, apart, unmet}
 use Rattle.presence.specs.Presence.{room}
 use Rattle.entry.specs.Record.{Slot, recordAt}
 use Rattle.book.specs.Rows.{dueAt, recordsFrom}
-use Rattle.book.specs.Book.{headSlots, rowSlots, headsIn, colsIn, recordsIn, recordsPlace, countIn, judge}
+use Rattle.book.specs.Book.{headSlots, rowSlots, headsIn, colsIn, recordsPlace, countIn, judge}
 use Rattle.book.specs.JudgeCases.{records-place}
 use Rattle.book.specs.Front.{firstPlace}
 use Rattle.book.specs.FrontCases.{first-place, first-whole}

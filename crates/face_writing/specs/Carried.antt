@@ -51,9 +51,6 @@ pub wide-stage : (xs : List ℕ) → 255 < getD xs 9 0 → stateOf xs .stage ≡
 unfolding stateOf stageFrom
 wide-stage xs h = rw (lt-ltb 255 (getD xs 9 0) h) (same (ltb 255 (getD xs 8 0)) 2)
 
-pub no-stage : (st : Writing) → st .stage ≡ 2 → st .stage ≡ 0 → ⊥
-no-stage st e z = omega arith
-
 pub behind-finish : (st : Writing) → finishNext st .stage ≡ 0 → ⊥
 behind-finish st z = omega arith
 

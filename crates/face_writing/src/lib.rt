@@ -34,8 +34,8 @@ fn stage_from(form: u64, stage: u64) -> u8
     stage as u8
 }
 
-fn take_up(state: [u64; 10]) -> Writing
-    ensures { λ r. ⌜ r ≡ stateOf state ⌝ }
+fn take_up(state: &[u64; 10]) -> Writing
+    ensures { λ r. ⌜ r ≡ stateOf (now (state .entry)) ⌝ }
 {
     let form = state[8];
     let stage = state[9];
@@ -69,30 +69,20 @@ fn fields_of(st: Writing) -> [u64; 10]
     ]
 }
 
-fn outcome_number(o: Outcome) -> u32
-    ensures { λ r. ⌜ r ≡ outcomeNumber o ⌝ }
-{
-    let answer = o.answer;
-    match answer {
-        Written::Done(_) => 0,
-        Written::Refused(r) => r.number,
-    }
-}
-
-// A refusal changes the place alone.
-fn state_left(state: [u64; 10], o: Outcome) -> [u64; 10]
-    ensures { λ r. ⌜ r ≡ stateLeft state o ⌝ }
+// What a call leaves: a refusal changes the place alone.
+fn settle(state: &mut [u64; 10], o: Outcome) -> u32
+    ensures { λ r. ⌜ (r ≡ outcomeNumber o) × (now (state .exit) ≡ stateLeft (now (state .entry)) o) ⌝ }
 {
     let answer = o.answer;
     match answer {
         Written::Done(_) => {
             let st = o.state;
-            fields_of(st)
+            *state = fields_of(st);
+            0
         }
         Written::Refused(r) => {
-            let mut next = state;
-            next[0] = r.place as u64;
-            next
+            state[0] = r.place as u64;
+            r.number
         }
     }
 }
@@ -119,11 +109,9 @@ pub extern "C" fn wt_begin(
         (now (htags .entry)) (now (hflags .entry)) (now (tags .entry)) (now (flags .entry))
         (now (buf .entry))) ⌝ }
 {
-    let before = *state;
-    let st = take_up(before);
+    let st = take_up(state);
     let outcome = begin::begin(st, htags, hflags, tags, flags, buf);
-    *state = state_left(before, outcome);
-    outcome_number(outcome)
+    settle(state, outcome)
 }
 
 #[no_mangle]
@@ -133,11 +121,9 @@ pub extern "C" fn wt_open(state: &mut [u64; 10], buf: &mut [u8]) -> u32
         (openOutcome (stateOf (now (state .entry))) (now (buf .entry))))
         × (now (buf .exit) ≡ openOctets (stateOf (now (state .entry))) (now (buf .entry))) ⌝ }
 {
-    let before = *state;
-    let st = take_up(before);
+    let st = take_up(state);
     let outcome = framing::open(st, buf);
-    *state = state_left(before, outcome);
-    outcome_number(outcome)
+    settle(state, outcome)
 }
 
 #[no_mangle]
@@ -147,11 +133,9 @@ pub extern "C" fn wt_close(state: &mut [u64; 10], buf: &mut [u8]) -> u32
         (closeOutcome (stateOf (now (state .entry))) (now (buf .entry))))
         × (now (buf .exit) ≡ closeOctets (stateOf (now (state .entry))) (now (buf .entry))) ⌝ }
 {
-    let before = *state;
-    let st = take_up(before);
+    let st = take_up(state);
     let outcome = framing::close(st, buf);
-    *state = state_left(before, outcome);
-    outcome_number(outcome)
+    settle(state, outcome)
 }
 
 #[no_mangle]
@@ -161,11 +145,9 @@ pub extern "C" fn wt_finish(state: &mut [u64; 10], buf: &mut [u8]) -> u32
         (finishOutcome (stateOf (now (state .entry))) (now (buf .entry))))
         × (now (buf .exit) ≡ finishOctets (stateOf (now (state .entry))) (now (buf .entry))) ⌝ }
 {
-    let before = *state;
-    let st = take_up(before);
+    let st = take_up(state);
     let outcome = framing::finish(st, buf);
-    *state = state_left(before, outcome);
-    outcome_number(outcome)
+    settle(state, outcome)
 }
 
 #[no_mangle]
@@ -176,11 +158,9 @@ pub extern "C" fn wt_give_number(state: &mut [u64; 10], buf: &mut [u8], tag: u32
         (giveOutcome (stateOf (now (state .entry))) (now (buf .entry)) tag (Number value)))
         × (now (buf .exit) ≡ giveOctets (stateOf (now (state .entry))) (now (buf .entry)) tag (Number value)) ⌝ }
 {
-    let before = *state;
-    let st = take_up(before);
+    let st = take_up(state);
     let outcome = giving::give_number(st, buf, tag, value);
-    *state = state_left(before, outcome);
-    outcome_number(outcome)
+    settle(state, outcome)
 }
 
 // Any number but 0 is yes.
@@ -193,11 +173,9 @@ pub extern "C" fn wt_give_truth(state: &mut [u64; 10], buf: &mut [u8], tag: u32,
         × (now (buf .exit) ≡
         giveOctets (stateOf (now (state .entry))) (now (buf .entry)) tag (Truth (not (eqb yes 0)))) ⌝ }
 {
-    let before = *state;
-    let st = take_up(before);
+    let st = take_up(state);
     let outcome = giving::give_truth(st, buf, tag, yes != 0);
-    *state = state_left(before, outcome);
-    outcome_number(outcome)
+    settle(state, outcome)
 }
 
 // Octets without their length or their final 0.
@@ -210,11 +188,9 @@ pub extern "C" fn wt_give_octets(state: &mut [u64; 10], buf: &mut [u8], tag: u32
         × (now (buf .exit) ≡
         giveOctets (stateOf (now (state .entry))) (now (buf .entry)) tag (Octets (now (s .entry)))) ⌝ }
 {
-    let before = *state;
-    let st = take_up(before);
+    let st = take_up(state);
     let outcome = giving::give_octets(st, buf, tag, s);
-    *state = state_left(before, outcome);
-    outcome_number(outcome)
+    settle(state, outcome)
 }
 
 // The count of a list, whose elements follow one at a time.
@@ -226,11 +202,9 @@ pub extern "C" fn wt_give_list(state: &mut [u64; 10], buf: &mut [u8], tag: u32, 
         (giveOutcome (stateOf (now (state .entry))) (now (buf .entry)) tag (Count count)))
         × (now (buf .exit) ≡ giveOctets (stateOf (now (state .entry))) (now (buf .entry)) tag (Count count)) ⌝ }
 {
-    let before = *state;
-    let st = take_up(before);
+    let st = take_up(state);
     let outcome = giving::give_list(st, buf, tag, count);
-    *state = state_left(before, outcome);
-    outcome_number(outcome)
+    settle(state, outcome)
 }
 
 #[no_mangle]
@@ -241,11 +215,9 @@ pub extern "C" fn wt_add_number(state: &mut [u64; 10], buf: &mut [u8], value: u3
         (elementOutcome (stateOf (now (state .entry))) (now (buf .entry)) (Number value)))
         × (now (buf .exit) ≡ elementOctets (stateOf (now (state .entry))) (now (buf .entry)) (Number value)) ⌝ }
 {
-    let before = *state;
-    let st = take_up(before);
+    let st = take_up(state);
     let outcome = giving::add_number(st, buf, value);
-    *state = state_left(before, outcome);
-    outcome_number(outcome)
+    settle(state, outcome)
 }
 
 #[no_mangle]
@@ -257,9 +229,7 @@ pub extern "C" fn wt_add_octets(state: &mut [u64; 10], buf: &mut [u8], s: &[u8])
         × (now (buf .exit) ≡
         elementOctets (stateOf (now (state .entry))) (now (buf .entry)) (Octets (now (s .entry)))) ⌝ }
 {
-    let before = *state;
-    let st = take_up(before);
+    let st = take_up(state);
     let outcome = giving::add_octets(st, buf, s);
-    *state = state_left(before, outcome);
-    outcome_number(outcome)
+    settle(state, outcome)
 }

@@ -18,7 +18,7 @@ use Rattle.answers.specs.Walk.{endsAt}
 use Rattle.whole.specs.Number.{encodeNumber}
 use Rattle.text.specs.Narrow.{narrowOf}
 use Rattle.text.specs.Utf8.{textOf}
-use Rattle.value.specs.Types.{Kind, nothing, number, truth, narrow, text, binary, Form, one, kindNumber, kindAt}
+use Rattle.value.specs.Types.{Kind, nothing, number, truth, narrow, text, binary, Form, kindNumber, kindAt}
 use Rattle.value.specs.Types.{formAt, listForm, formsEnd, unknownForm}
 use Rattle.writing.specs.declared.Writing.{Writing}
 use Rattle.writing.specs.State.{withinOf, roomAt}

@@ -25,7 +25,7 @@ use Rattle.table.specs.Table.{Column}
 use Rattle.table.specs.Columns.{columnsIn}
 use Rattle.entry.specs.Record.{Slot, isClear, presentIn, keysAt, recordAt, freed}
 use Rattle.entry.specs.Slots.{keyBit, slotsFrom, slots-many}
-use Rattle.book.specs.Book.{rowSlots, colsIn, tablesAt, bodyAt, countIn, headerAt, judge, sealed-length}
+use Rattle.book.specs.Book.{rowSlots, colsIn, tablesAt, countIn, headerAt, judge, sealed-length}
 use Rattle.book.specs.Judged.{FitsArrays, judgedOf}
 use Rattle.book.specs.Front.{frontAt, judge-front}
 use Rattle.book.specs.JudgeCases.{slots-row, both-fit}
@@ -34,7 +34,7 @@ use Rattle.book.specs.declared.Judgement.{Judgement}
 use Rattle.book.specs.declared.Judged.the-variants as judged
 use Rattle.lookup.specs.Places.{walkBehind, walk-behind, placeIn}
 use Rattle.lookup.specs.Cases.{walk-place}
-use Rattle.editing.specs.Put.{put, bufferOf, resealed, correctedOf}
+use Rattle.editing.specs.Put.{put, resealed, correctedOf}
 use Rattle.editing.specs.InPlace.{roomIn, room-keeps, put-length}
 use Rattle.editing.specs.Fits.{recordsPut, records-fit}
 use Rattle.editing.specs.Stands.{place-next, place-stands, number-stands}

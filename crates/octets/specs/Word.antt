@@ -1,5 +1,5 @@
 -- Little-endian words of any number of octets (document 01: all fixed-width numbers are little-endian). One law each, for any width. Assumes nothing.
-use mathlib.Core.Path.{_≡_, refl, sym, ap, ap₂, _∙_}
+use mathlib.Core.Path.{_≡_, refl, sym, ap, _∙_}
 use mathlib.Core.Bool.{cond}
 use mathlib.Core.List.{List, [], _∷_, _++_}
 use Prim.Native.Nat.{ℕ, zero, suc, _+_, _-_, _*_, _/_, _%_, _^_, _<_, _≤_}
@@ -15,7 +15,7 @@ use borrow.Author.Tests.{lt-ltb, le-ltb}
 use mir.Syntax.{w8, w64}
 use mir.Val.{Fits}
 use Rattle.octets.specs.Octets.{Octets, octets-take, octetAt}
-use Rattle.octets.specs.Splice.{splice, stored, splice-none, copy-step, copy-end, splice-within, stored-in, stored-out}
+use Rattle.octets.specs.Splice.{splice, stored, splice-none, copy-step, copy-end, stored-in, stored-out}
 
 -- x in n octets, the lowest first
 abbrev pub leOf : ℕ → ℕ → List ℕ
@@ -93,11 +93,6 @@ length-word n x rest = length-append (leOf n x) rest ∙ ap (λ (k : ℕ). k + l
 
 pub word-one : (n x y : ℕ) (r s : List ℕ) → x < 256 ^ n → y < 256 ^ n → leOf n x ++ r ≡ leOf n y ++ s → (x ≡ y) × (r ≡ s)
 word-one n x y r s h i e = (sym (word-back n x h r) ∙ ap (wordOf n) e ∙ word-back n y i s, sym (drop-word n x r) ∙ ap (drop n) e ∙ drop-word n y s)
-
--- a word that was stored is read back
-pub word-splice : (n : ℕ) (d : List ℕ) (i x : ℕ) → i ≤ length d → x < 256 ^ n → wordOf n (drop i (splice d i (leOf n x))) ≡ x
-unfolding wordOf
-word-splice n d i x h k = rw (rw length-leOf at (splice-within d i (leOf n x) h)) (val-le n x k)
 
 -- ---- octet by octet, for the loops
 

@@ -1,14 +1,14 @@
 -- Presence bits (2.9.5): column 0 is the top bit of the first octet, and the bits behind the last column are spare. Assumes nothing.
-use mathlib.Core.Path.{_≡_, refl, sym, ap, ap₂, _∙_}
+use mathlib.Core.Path.{_≡_, refl, sym, ap, _∙_}
 use mathlib.Core.Bool.{Bool, true}
 use mathlib.Core.List.{List, [], _∷_, _++_}
 use Prim.Native.Nat.{ℕ, zero, suc, _+_, _-_, _*_, _/_, _%_, _^_, _<_, _≤_}
-use native.Mathlib.Nat.{zero-div, zero-mod, one-mul, div-eq-of-lt, mod-one, mod-lt, mod-eq-of-lt}
+use native.Mathlib.Nat.{zero-div, zero-mod, one-mul, div-eq-of-lt, mod-one, mod-eq-of-lt}
 use native.Mathlib.Numerals.{add-one, one-add}
 use native.Mathlib.Decide.{decLt, ℕ-discrete}
 use native.Mathlib.Omega.{arith}
 use lib.Bits.{bitAnd, and-mask, and-high, bitOr, bitXor, or-shr, or-mod, or-zero-r, shifted-even}
-use lib.Pow.{pow-lt, pow-add, shl-shr, mod-pow-add, pow-pos, ones-split, ones-lt, high, field, mod-mod-pow}
+use lib.Pow.{pow-lt, pow-add, shl-shr, mod-pow-add, ones-split, ones-lt, high, field, mod-mod-pow}
 use borrow.Author.Tests.{eqb-true}
 use lib.Seq.{getD-set-same, getD-set-other, set-out, ext-getD}
 use lib.Dec.{eqb}

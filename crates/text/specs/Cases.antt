@@ -6,8 +6,7 @@ use lib.Dec.{eqb}
 use mathlib.Core.Path.{_≡_, refl, sym, ap, _∙_}
 use mathlib.Core.List.{List, [], _∷_, _++_}
 use lib.ListN.{length, getD, drop, drop-of-length-le, length-append, length-drop, List·getD-append, List·getD-eq-default}
-use lib.Seq.{drop-cons, drop-drop, getD-drop, getD-append-add}
-use native.Mathlib.Numerals.{add-one}
+use lib.Seq.{drop-drop, getD-drop, getD-append-add}
 use borrow.Author.Tests.{lt-ltb, eq-eqb, ne-eqb}
 use mathlib.Core.Bool.{true, false, cond}
 use Rattle.octets.specs.Cases.{split}

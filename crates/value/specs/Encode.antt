@@ -4,23 +4,22 @@ use native.Mathlib.Omega.{arith}
 use mathlib.Core.Path.{_≡_, refl, sym, ap, _∙_}
 use mathlib.Core.List.{List, [], _∷_, _++_, append-assoc}
 use lib.ListN.{length, take, drop, length-append, length-drop, take-append-drop}
-use lib.Seq.{drop-at, drop-append-seam, getD-drop, length-take-le}
+use lib.Seq.{drop-at, drop-append-seam, length-take-le}
 use lib.Dec.{ltb, leb}
-use mathlib.Core.Bool.{Bool, true, false, toNat}
 use borrow.Author.Tests.{lt-ltb, le-ltb, le-leb, leb-true, ltb-true, ltb-false}
 use Rattle.octets.specs.Cases.{taken}
 use Rattle.octets.specs.Octets.{octetAt, Octets, octets-drop, front}
 use Rattle.answers.specs.declared.Walk.{Walk}
-use Rattle.answers.specs.declared.Walk.the-variants.{Ends, Broken}
-use Rattle.answers.specs.Walk.{broken, onto, no-end, from-walk}
+use Rattle.answers.specs.declared.Walk.the-variants.{Ends}
+use Rattle.answers.specs.Walk.{no-end, from-walk}
 use Rattle.whole.specs.declared.Number.{Number}
-use Rattle.whole.specs.declared.Number.the-variants.{Is, Broken as NoNumber}
+use Rattle.whole.specs.declared.Number.the-variants.{Is}
 use Rattle.whole.specs.Number.{numberOf, encodeNumber}
-use Rattle.whole.specs.Laws.{number-within, number-back, number-sound, number-small, number-wide}
+use Rattle.whole.specs.Laws.{number-back, number-sound, number-small, number-wide}
 use Rattle.text.specs.Narrow.{encodeNarrow, NoZero, narrow-back, narrow-sound}
 use Rattle.text.specs.Text.{encodeText, Chars, text-back, text-sound}
 use Rattle.value.specs.Types.{Kind, nothing, number, truth, narrow, text, binary}
-use Rattle.value.specs.Value.{counted, numericOf, truthOf, binaryOf, elementOf, listFrom, listOf}
+use Rattle.value.specs.Value.{numericOf, truthOf, binaryOf, elementOf, listFrom, listOf}
 use Rattle.value.specs.Within.{from-number}
 
 -- one value

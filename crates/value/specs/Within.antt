@@ -10,7 +10,7 @@ use Rattle.octets.specs.Cases.{taken}
 use Rattle.octets.specs.Octets.{octetAt}
 use Rattle.answers.specs.declared.Walk.{Walk}
 use Rattle.answers.specs.declared.Walk.the-variants.{Ends, Broken}
-use Rattle.answers.specs.Walk.{broken, onto, no-end, from-walk, breakOf, break-either, break-onto}
+use Rattle.answers.specs.Walk.{no-end, from-walk, breakOf, break-either, break-onto}
 use Rattle.whole.specs.declared.Number.{Number}
 use Rattle.whole.specs.declared.Number.the-variants.{Is, Broken as NoNumber}
 use Rattle.whole.specs.Number.{numberOf}

@@ -1,7 +1,7 @@
 // A view of a book: it holds the book's slice and the place where a record starts. Its functions are thin: each takes the
-// view apart and leaves the work to functions on plain parameters. Other code calls `value_of`, whose parameters are plain.
+// view apart and leaves the work to functions on plain parameters. Other code calls `value_at` and `value_of`, whose
+// parameters are plain. Each call judges the book once.
 use lookup::Looked;
-use lookup::Placed;
 use lookup::Which;
 ghost use mathlib.Core.Path.{_≡_};
 ghost use Prim.Native.Nat.{_-_};
@@ -79,19 +79,16 @@ pub fn view_found<'a>(v: View<'a>, tag: u32) -> Found<'a>
 }
 
 // What a view of the record at a place hands back. Its parameters are plain, so that its callers are.
-fn seen<'a>(book: &'a [u8], at: usize, tag: u32) -> &'a [u8]
+pub fn value_at<'a>(book: &'a [u8], at: usize, tag: u32) -> &'a [u8]
     ensures { λ r. ⌜ now r ≡ stretchAt (now (book .entry)) at tag ⌝ }
 {
     view_stretch(view_of(book, at), tag)
 }
 
-// The stretch of the book that is the value of a record with a whole tag, by a view of that record; empty where there is
-// no value.
+// The stretch of the book that is the value of a record with a whole tag; empty where there is no value.
 pub fn value_of<'a>(book: &'a [u8], which: Which, tag: u32) -> &'a [u8]
     ensures { λ r. ⌜ now r ≡ stretchOf (now (book .entry)) which tag ⌝ }
 {
-    match lookup::place_of(book, which) {
-        Placed::At(at) => seen(book, at, tag),
-        Placed::Refused(_) => &book[0..0],
-    }
+    let looked = lookup::lookup(book, which, tag);
+    cut(book, looked)
 }

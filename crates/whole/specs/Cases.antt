@@ -2,11 +2,9 @@
 use Prim.Native.Nat.{ℕ, zero, suc, _+_, _-_, _*_, _/_, _%_, _^_, _≤_, _<_}
 use native.Mathlib.Omega.{arith}
 use native.Mathlib.Nat.{one-mul, pow-suc}
-use mathlib.Core.Path.{_≡_, refl, sym, ap, _∙_}
+use mathlib.Core.Path.{_≡_, refl, _∙_}
 use mathlib.Core.List.{List, [], _∷_, _++_}
-use mathlib.Core.Bool.{true, false}
 use lib.ListN.{length, drop}
-use lib.Dec.{ltb}
 use lib.Pow.{pow-add, shl-exact}
 use mir.Syntax.{w32}
 use mir.Val.{Fits}
@@ -14,7 +12,7 @@ use borrow.Author.Tests.{lt-ltb, le-ltb, le-leb, lt-leb, eq-eqb, ne-eqb}
 use Rattle.octets.specs.Cases.{split}
 use Rattle.octets.specs.Octets.{octetAt}
 use Rattle.octets.specs.Splice.{stored}
-use Rattle.octets.specs.Word.{leOf, wordOf, narrowWord, length-leOf, word-there, word-most}
+use Rattle.octets.specs.Word.{leOf, wordOf, narrowWord, length-leOf, word-most}
 use Rattle.whole.specs.Number.{Number, Is, Broken, fewest, encodeNumber, leastOf, longNumber, numberOf}
 use Rattle.whole.specs.Laws.{number-long, number-short, fewest-most}
 

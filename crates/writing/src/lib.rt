@@ -9,7 +9,6 @@ ghost use mathlib.Core.Path.{_≡_};
 ghost use Prim.Native.Nat.{_+_, _-_, _*_, _≤_};
 ghost use Rattle.answers.specs.Numbers.{mostOctets, mostColumns};
 ghost use Rattle.writing.specs.State.{columnsOf, saneOf, idleOf, framedOf, withinOf, roomAt, settled};
-ghost use Rattle.writing.specs.State.{refusedWith, doneWith};
 ghost use Rattle.writing.specs.Column.{rowFrom, columnFor};
 
 // The stages of a writing.

@@ -1,5 +1,4 @@
 use Rattle.correcting.specs.Cases.{set-short, set-kept, set-refused, set-left, set-keeps, set-done, set-put}
-use mathlib.Core.Path.{refl}
 use native.Mathlib.Omega.{arith}
 use borrow.Author.Needs.{needs}
 use Rattle.correcting.proofs.correct.Statement.{statement}

@@ -1,5 +1,4 @@
-use native.Mathlib.Omega.{arith}
-use Rattle.correcting.specs.Cases.{plan-refused, plan-header, plan-none, plan-number, header-reach, number-walks, number-reach}
+use Rattle.correcting.specs.Cases.{plan-refused, plan-header, plan-none, plan-number, header-reach, number-reach}
 use mathlib.Core.Bool.{true}
 use mathlib.Core.List.{[]}
 use borrow.Author.Needs.{needs}

@@ -3,7 +3,7 @@ use Rattle.editing.specs.Put.{spotFrom}
 use Rattle.entry.specs.Slots.{slotsFrom}
 use lib.ListN.{length, drop}
 use mathlib.Core.List.{[]}
-use mathlib.Core.Path.{_≡_, refl}
+use mathlib.Core.Path.{_≡_}
 use Prim.Native.Nat.{_+_, _-_, _*_, _^_, _≤_, _<_}
 use borrow.Author.Needs.{needs}
 use Rattle.correcting.proofs.find_value.Statement.{statement}

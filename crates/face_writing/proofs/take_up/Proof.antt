@@ -7,32 +7,32 @@ use Rattle.face_writing.proofs.take_up.Lts as lts
 use Rattle.face_writing.proofs.form_from.Reads as form-from-reads
 use Rattle.face_writing.proofs.stage_from.Reads as stage-from-reads
 
-array-read-form : tie.Need-array-read-form
-array-read-form c = search needs
+element-copy-out-form : tie.Need-element-copy-out-form
+element-copy-out-form c = search needs
 
-array-read-stage : tie.Need-array-read-stage
-array-read-stage c = search needs
+element-copy-out-stage : tie.Need-element-copy-out-stage
+element-copy-out-stage c = search needs
 
-array-read-t7 : tie.Need-array-read-t7
-array-read-t7 c = search needs
+element-copy-out-t6 : tie.Need-element-copy-out-t6
+element-copy-out-t6 c = search needs
 
-array-read-t15 : tie.Need-array-read-t15
-array-read-t15 c = search needs
+element-copy-out-t14 : tie.Need-element-copy-out-t14
+element-copy-out-t14 c = search needs
 
-array-read-t19 : tie.Need-array-read-t19
-array-read-t19 c = search needs
+element-copy-out-t18 : tie.Need-element-copy-out-t18
+element-copy-out-t18 c = search needs
 
-array-read-t23 : tie.Need-array-read-t23
-array-read-t23 c = search needs
+element-copy-out-t22 : tie.Need-element-copy-out-t22
+element-copy-out-t22 c = search needs
 
-array-read-t27 : tie.Need-array-read-t27
-array-read-t27 c = search needs
+element-copy-out-t26 : tie.Need-element-copy-out-t26
+element-copy-out-t26 c = search needs
 
-array-read-t31 : tie.Need-array-read-t31
-array-read-t31 c = search needs
+element-copy-out-t30 : tie.Need-element-copy-out-t30
+element-copy-out-t30 c = search needs
 
-array-read-t35 : tie.Need-array-read-t35
-array-read-t35 c = search needs
+element-copy-out-t34 : tie.Need-element-copy-out-t34
+element-copy-out-t34 c = search needs
 
 form-from-requires : tie.Need-form-from-requires
 form-from-requires c κs = search needs
@@ -47,15 +47,15 @@ pub take-up-spec : {M : Type 1} → statement M
 take-up-spec =
     tie.close
     (tie.spec
-    array-read-form
-    array-read-stage
-    array-read-t7
-    array-read-t15
-    array-read-t19
-    array-read-t23
-    array-read-t27
-    array-read-t31
-    array-read-t35
+    element-copy-out-form
+    element-copy-out-stage
+    element-copy-out-t6
+    element-copy-out-t14
+    element-copy-out-t18
+    element-copy-out-t22
+    element-copy-out-t26
+    element-copy-out-t30
+    element-copy-out-t34
     form-from-requires
     stage-from-requires
     returns)

@@ -1,4 +1,4 @@
-use Rattle.inserting.specs.Cases.{insert-short, insert-kept, insert-refused, insert-left, insert-keeps, insert-done, insert-put}
+use Rattle.inserting.specs.Cases.{insert-short, insert-kept, insert-refused, insert-left, insert-done, insert-put}
 use borrow.Author.Needs.{needs}
 use Rattle.inserting.proofs.insert.Statement.{statement}
 use Rattle.inserting.proofs.insert.Tie as tie

@@ -1,5 +1,4 @@
-use native.Mathlib.Omega.{arith}
-use Rattle.inserting.specs.Cases.{delete-judged, first-small, gap-far, gap-only, gap-near, gap-end, gap-delete}
+use Rattle.inserting.specs.Cases.{delete-judged, gap-far, gap-only, gap-end, gap-delete}
 use borrow.Author.Needs.{needs}
 use Rattle.inserting.proofs.plan_delete.Statement.{statement}
 use Rattle.inserting.proofs.plan_delete.Tie as tie

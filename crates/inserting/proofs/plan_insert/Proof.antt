@@ -1,5 +1,5 @@
 use native.Mathlib.Omega.{arith}
-use Rattle.inserting.specs.Cases.{insert-judged, address-reach, first-small, gap-refused, gap-few, gap-insert}
+use Rattle.inserting.specs.Cases.{insert-judged, address-reach, gap-refused, gap-few, gap-insert}
 use borrow.Author.Needs.{needs}
 use Rattle.inserting.proofs.plan_insert.Statement.{statement}
 use Rattle.inserting.proofs.plan_insert.Tie as tie

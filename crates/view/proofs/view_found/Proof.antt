@@ -16,7 +16,6 @@ use prog.Memory.{Memory}
 use prog.Routine.{Routine}
 use prog.Wp.{Heap, Calls, Loops, WpFn, Tables}
 use ghost.Atoms.{Atoms, sem}
-use contract.Lifetimes.{Lfts}
 use contract.Monad.{Fun, fact}
 use contract.Running.{givenOf, tables, tablesOf}
 use types.Kit.{Given, ‵, raw, _⊛_, ⋆, some, later, _$_, _∵_, !, qed, by, move, drop, use1, use2, split, join, pick}
@@ -25,7 +24,7 @@ use types.Part.{whole, sub, look-in, agg}
 use types.Run.{look, init, forget, stop, fld, from, load, of-opd, and-then, no-more, assigns, land, returns, enter}
 use types.Run.{alloc1, alloc0, params1, pass1, pass0, free1, free0}
 use sound.WpLaws.{FmC, fmOf, WpFn-mono}
-use denote.RattleType.{RattleType, Valss, owns}
+use denote.RattleType.{Valss, owns}
 use denote.Laws.{Is, shows}
 use denote.Enum.Laws as EL
 use denote.Plain.{uint-makes, uint-vals, uint-tells}
@@ -34,7 +33,7 @@ use denote.Ref.{RefT, NamedLft, now}
 use denote.Signature.{namedLft}
 use denote.Slice.{ShrSlice, shr-slice-lawful}
 use denote.Steps.{owned, peeks, heard, nothing}
-use denote.Struct.Declared.{Declared, shape}
+use denote.Struct.Declared.{shape}
 use denote.Struct.Field.{rows}
 use denote.Struct.Laws as LL
 use denote.Struct.Struct.{Struct, within}
@@ -48,7 +47,7 @@ use denote.Triple.Table.{entered, cited}
 use denote.Triple.Walked.{says, Stays, stay-none, walkOf, goes-none, Walks, ends-at, walked, walk-meets}
 use denote.Exit.{yes}
 use Rattle.lookup.specs.Look.{stretchBy}
-use Rattle.lookup.specs.Placed.{lookupAt, stretchAt}
+use Rattle.lookup.specs.Placed.{lookupAt}
 use Rattle.lookup.specs.declared.Looked.{Looked}
 use Rattle.lookup.proofs.Looked as S
 use Rattle.lookup.proofs.Looked.Laws as S′

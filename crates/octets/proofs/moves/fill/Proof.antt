@@ -1,6 +1,5 @@
 use Rattle.octets.specs.Splice.{splice, loops}
-use lib.Seq.{slice}
-use lib.ListN.{length, take, drop, replicate}
+use lib.ListN.{length, take, replicate}
 use mathlib.Core.Path.{_≡_}
 use Prim.Native.Nat.{_+_, _-_, _≤_}
 use borrow.Author.Needs.{needs}

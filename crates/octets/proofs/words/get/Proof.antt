@@ -1,6 +1,5 @@
 use Rattle.octets.specs.Word.{wordOf, gets}
-use Rattle.octets.specs.Splice.{splice}
-use lib.ListN.{length, take, drop}
+use lib.ListN.{drop}
 use mathlib.Core.Path.{_≡_}
 use Prim.Native.Nat.{_+_, _-_, _≤_, _^_, _<_}
 use borrow.Author.Needs.{needs}

@@ -1,0 +1,39 @@
+/* The commands, and what the command line says to each. */
+#ifndef OAB_COMMANDS_H
+#define OAB_COMMANDS_H
+
+#include "octets.h"
+#include <stdio.h>
+
+/* Options, a bit each. */
+enum { OUT = 1, QUIET = 2, DRY = 4, JSON = 8, RAW = 16, EXIT = 32, NAMES = 64 };
+
+struct command {
+    const char *name;
+    size_t count; /* of the words, options taken out */
+    char **words;
+    unsigned options;
+    const char *out; /* -o: where the result goes, or null */
+    FILE *to;        /* where lines are printed */
+};
+
+/* A record's number or `header`; a tag. Says which word is at fault and answers FAILED, or DONE. */
+int word_record(const char *word, uint64_t *record);
+int word_tag(const char *word, uint32_t *tag);
+
+/* 15 in words: whether the book lacks the record or the column. */
+int refuse_missing(const char *what, const uint8_t *book, size_t octets, uint64_t record, uint32_t tag);
+
+int run_check(const struct command *c);
+int run_list(const struct command *c);
+int run_columns(const struct command *c);
+int run_show(const struct command *c);
+int run_get(const struct command *c);
+int run_extract(const struct command *c);
+int run_set(const struct command *c);
+int run_clear(const struct command *c);
+int run_insert(const struct command *c);
+int run_delete(const struct command *c);
+int run_apply(const struct command *c);
+
+#endif

@@ -1,0 +1,226 @@
+/* oab: offline address books on the command line. What a book is, what stands in it and what a correction makes of it
+ * is decided by the proved library alone (include/windtrellis.h); the files here read and save files, and turn values
+ * into words and words into values. This one takes the command line apart, and has the help. */
+#include "commands.h"
+#include "saving.h"
+#include "windtrellis.h"
+#include "words.h"
+#include <errno.h>
+#include <stdlib.h>
+#include <string.h>
+
+static const struct entry {
+    const char *name, *takes, *says;
+    int (*run)(const struct command *);
+    size_t least, most; /* words */
+    unsigned options;
+} commands[] = {
+    { "check", "BOOK..", "Judge each book: a line a book that is good, a refusal for one that isn't.",
+        run_check, 1, SIZE_MAX, OUT | QUIET | JSON },
+    { "list", "BOOK",
+        "The book's length, header columns, address columns and records; then the header record's place,\n"
+        "size and number of values; then each record's number and the same three.",
+        run_list, 1, 1, OUT | QUIET | JSON },
+    { "columns", "BOOK", "Both tables: a line a column with its number, tag, type and flags.",
+        run_columns, 1, 1, OUT | QUIET | JSON | NAMES },
+    { "show", "BOOK RECORD..",
+        "All values of each record: record, tag, type and value, parted by tabs, a line a value or element.",
+        run_show, 2, SIZE_MAX, OUT | QUIET | JSON | NAMES },
+    { "get", "BOOK RECORD TAG",
+        "The value of a record under a whole tag, a line a value or element. Absent: nothing on standard output.\n"
+        "--raw writes the octets of its encoding instead.",
+        run_get, 3, 3, OUT | QUIET | JSON | RAW | EXIT },
+    { "set", "BOOK RECORD TAG VALUE..",
+        "Set a value; a list takes a word an element. What get prints, set takes back as the same octets.\n"
+        "--raw reads the octets of its encoding from standard input instead.",
+        run_set, 3, SIZE_MAX, OUT | QUIET | DRY | RAW },
+    { "clear", "BOOK RECORD TAG", "Clear a value.", run_clear, 3, 3, OUT | QUIET | DRY },
+    { "insert", "BOOK K RECORDFILE", "Put a record, whose octets are in a file, in before record K.",
+        run_insert, 3, 3, OUT | QUIET | DRY },
+    { "delete", "BOOK K", "Take record K out.", run_delete, 2, 2, OUT | QUIET | DRY },
+    { "extract", "BOOK RECORD", "A record's octets, for insert.", run_extract, 2, 2, OUT | QUIET },
+    { "apply", "BOOK [FILE]",
+        "Many corrections, all of them or none, saved once. A line of the file, or of standard input, is one of\n"
+        "    set RECORD TAG VALUE    clear RECORD TAG    delete K\n"
+        "and each sees what the lines before it made. Elements of a list are parted by tabs. Empty lines and\n"
+        "lines that start with # say nothing.",
+        run_apply, 1, 2, OUT | QUIET | DRY },
+};
+
+enum { COMMANDS = sizeof commands / sizeof *commands };
+
+static const struct option {
+    char letter;
+    const char *word, *says;
+    unsigned bit;
+} options[] = {
+    { 'o', "-o FILE", "the result goes to FILE; - is standard output", OUT },
+    { 'n', "-n", "say what would be done, and save nothing", DRY },
+    { 'q', "-q", "say only what is wrong", QUIET },
+    { 'e', "-e", "exit status 3 where the value is absent", EXIT },
+    { 0, "--json", "one object a line", JSON },
+    { 0, "--names", "tags by the names of MS-OXOAB's tables, where they have one", NAMES },
+    { 0, "--raw", "the octets of the value's encoding", RAW },
+};
+
+enum { OPTIONS = sizeof options / sizeof *options };
+
+/* ---- help */
+
+static void describe(FILE *to, const struct entry *e)
+{
+    size_t i;
+    fprintf(to, "usage: oab %s [OPTION..] %s\n\n%s\n\n", e->name, e->takes, e->says);
+    for (i = 0; i < OPTIONS; i++)
+        if (e->options & options[i].bit) fprintf(to, "  %-8s  %s\n", options[i].word, options[i].says);
+    if (e->options & DRY)
+        fputs("\nThe book is corrected where it stands: a new file beside it is synced and renamed over it. A refusal\n"
+              "leaves it as it is.\n", to);
+    fputs("\nRECORD is 'header' or a number from 0, TAG eight hex digits or a name such as DisplayName. Values:\n"
+          "numbers in decimal, yes or no, binary in hex, text with \\xNN for an octet and \\\\ for a backslash.\n"
+          "Options stand anywhere before --; a value that starts with a dash needs -- in front of it.\n"
+          "Exit status: 0 done, 1 refused, 2 usage or system error, 3 absent, with -e.\n", to);
+}
+
+static void describe_all(FILE *to)
+{
+    size_t i;
+    fputs("usage: oab COMMAND [OPTION..] ..\n\n"
+          "Offline address books (version 4 full details files): judged, looked up, corrected.\n\n", to);
+    for (i = 0; i < COMMANDS; i++) fprintf(to, "  oab %s %s\n", commands[i].name, commands[i].takes);
+    fputs("\n'oab COMMAND --help' says more, 'oab --version' which one this is.\n"
+          "Exit status: 0 done, 1 refused, 2 usage or system error, 3 absent, with -e.\n", to);
+}
+
+static void say_version(void)
+{
+    uint32_t own = WT_VERSION, library = wt_version();
+    printf("oab %u.%u.%u, ", own / 10000, own / 100 % 100, own % 100);
+    printf("library %u.%u.%u\n", library / 10000, library / 100 % 100, library % 100);
+}
+
+/* ---- the command line */
+
+enum { HELP = 1 << 16, VERSION = 1 << 17 };
+
+/* Flags that stand alone: their bits, 0 for what is none. Several letters may share a dash. */
+static unsigned flags_in(const char *word)
+{
+    unsigned bits = 0, bit;
+    size_t i;
+    if (strcmp(word, "--help") == 0) return HELP;
+    if (strcmp(word, "--version") == 0) return VERSION;
+    for (i = 0; i < OPTIONS; i++)
+        if (options[i].bit != OUT && strcmp(options[i].word, word) == 0) return options[i].bit;
+    for (word++; *word; word++) {
+        bit = *word == 'h' ? HELP : 0;
+        for (i = 0; i < OPTIONS; i++)
+            if (options[i].bit != OUT && options[i].letter == *word) bit = options[i].bit;
+        if (!bit) return 0;
+        bits |= bit;
+    }
+    return bits;
+}
+
+/* Options are taken out of the words, up to --. */
+static int take_options(struct command *c, int argc, char **argv)
+{
+    int i, data = 0;
+    for (i = 1; i < argc; i++) {
+        unsigned bits;
+        if (data || argv[i][0] != '-' || !argv[i][1]) {
+            c->words[c->count++] = argv[i];
+        } else if (strcmp(argv[i], "--") == 0) {
+            data = 1;
+        } else if (strcmp(argv[i], "-o") == 0) {
+            if (c->out) return fail("-o", "is given twice");
+            if (++i == argc) return fail("-o", "the file is missing");
+            c->out = argv[i];
+            c->options |= OUT;
+        } else if ((bits = flags_in(argv[i])) != 0) {
+            c->options |= bits;
+        } else {
+            return fail(argv[i], "is no option; a value that starts with a dash needs -- in front of it");
+        }
+    }
+    return DONE;
+}
+
+static int fits(const struct command *c, const struct entry *e)
+{
+    size_t i;
+    for (i = 0; i < OPTIONS; i++)
+        if (c->options & options[i].bit & ~e->options) return fail(options[i].word, "is no option of %s", e->name);
+    if (c->options & JSON && c->options & RAW) return fail("--raw", "can't be had with --json");
+    if (c->options & JSON && c->options & NAMES) return fail("--names", "can't be had with --json, which has both");
+    if (c->count < e->least || c->count > e->most) {
+        if (c->count > e->most) fail(c->words[e->most], "is one word too many");
+        else fail(e->name, "a word is missing");
+        describe(stderr, e);
+        return FAILED;
+    }
+    return DONE;
+}
+
+/* Lines that are printed go to standard output, or with -o to a file, saved whole; where there is nothing to say, or it
+ * is refused, the file stays as it is. The verdict of check is a result, too, where it is a refusal. */
+static int run(struct command *c, const struct entry *e)
+{
+    char *text = NULL;
+    size_t n = 0;
+    int octets = e->options & DRY || c->options & RAW || e->run == run_extract;
+    int lines = c->out && strcmp(c->out, "-") != 0 && !octets, result, closed;
+    c->to = lines ? open_memstream(&text, &n) : stdout;
+    if (!c->to) return fail(e->name, "%s", strerror(errno));
+    result = e->run(c);
+    if (lines) {
+        closed = fclose(c->to);
+        if (closed != 0) result = fail(c->out, "%s", strerror(errno));
+        else if (result == DONE || (result == REFUSED && e->run == run_check))
+            result = save(c->out, (uint8_t *)text, n) == DONE ? result : FAILED;
+    }
+    free(text);
+    return result == ABSENT && !(c->options & EXIT) ? DONE : result;
+}
+
+static int choose(struct command *c)
+{
+    size_t i;
+    int result;
+    if (c->options & VERSION) {
+        say_version();
+        return DONE;
+    }
+    if (c->count == 0) {
+        describe_all(c->options & HELP ? stdout : stderr);
+        return c->options & HELP ? DONE : FAILED;
+    }
+    for (i = 0; i < COMMANDS; i++)
+        if (strcmp(c->words[0], commands[i].name) == 0) break;
+    if (i == COMMANDS) return fail(c->words[0], "is no command; 'oab --help' names them");
+    if (c->options & HELP) {
+        describe(stdout, &commands[i]);
+        return DONE;
+    }
+    c->name = commands[i].name;
+    c->words++;
+    c->count--;
+    if (c->options & QUIET) be_quiet();
+    result = fits(c, &commands[i]);
+    return result == DONE ? run(c, &commands[i]) : result;
+}
+
+int main(int argc, char **argv)
+{
+    struct command c = { 0 };
+    char **words = calloc((size_t)argc + 1, sizeof *words);
+    int result = words ? DONE : fail("oab", "%s", strerror(errno));
+    mind_signals();
+    c.words = words;
+    if (result == DONE) result = take_options(&c, argc, argv);
+    if (result == DONE) result = choose(&c);
+    if (fflush(stdout) != 0 || ferror(stdout))
+        result = fail("standard output", "can't be written: %s", strerror(errno));
+    free(words);
+    return result;
+}
