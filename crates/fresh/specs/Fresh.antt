@@ -35,33 +35,29 @@ unfoldable pub layOctets : List ℕ → List ℕ → List ℕ → List ℕ → L
 layOctets ht hf ts fs hd d =
     kept (layAt ht hf ts fs hd (length d)) d (stored d 0 (frontOf (columnsFrom ht hf) (columnsFrom ts fs) hd))
 
--- ---- sound tables are laid down
+-- ---- tables are laid down
 
 pub front-long : (hs cs : List Column) (hd : List ℕ)
     → length (frontOf hs cs hd) ≡ startSize (length hs) (length cs) + length hd
 unfolding frontOf
 front-long hs cs hd = let n = start-long hs cs in length-append (startOctets hs cs) hd ∙ omega arith
 
-module _ (hs cs : List Column) (hf fs hd : List ℕ) (h : SoundTable hs) (k : SoundTable cs)
-    (p : length hf ≡ length hs) (q : length fs ≡ length cs) where
-  pub lay-clear : (n : ℕ) → startSize (length hs) (length cs) + length hd ≤ n
-      → layAt (tagsOf hs) hf (tagsOf cs) fs hd n ≡ clear
-  unfolding layAt
-  lay-clear n l =
-      let t : length (tagsOf hs) ≡ length hs = tags-long hs in
-      let u : length (tagsOf cs) ≡ length cs = tags-long cs in
-      rw (
-        begin-taken hs cs hf fs h k p q n (omega arith),
-        t,
-        u,
-        le-leb (startSize (length hs) (length cs) + length hd) n l,
-      )
+-- what begin takes is laid down where there is room
+pub lay-stored : (ht hf ts fs hd d : List ℕ) → beginAt ht hf ts fs (length d) ≡ clear
+    → startSize (length ht) (length ts) + length hd ≤ length d
+    → layOctets ht hf ts fs hd d ≡ stored d 0 (frontOf (columnsFrom ht hf) (columnsFrom ts fs) hd)
+unfolding layOctets layAt
+lay-stored ht hf ts fs hd d e l = rw (e, le-leb (startSize (length ht) (length ts) + length hd) (length d) l)
 
-  pub front-laid : (d : List ℕ) → startSize (length hs) (length cs) + length hd ≤ length d
-      → layOctets (tagsOf hs) hf (tagsOf cs) fs hd d
-      ≡ stored d 0 (frontOf (columnsFrom (tagsOf hs) hf) (columnsFrom (tagsOf cs) fs) hd)
-  unfolding layOctets
-  front-laid d l = rw (lay-clear (length d) l)
+-- and begin takes sound tables, whatever flags are handed over with them
+pub front-laid : (hs cs : List Column) (hf fs hd : List ℕ) → SoundTable hs → SoundTable cs → length hf ≡ length hs
+    → length fs ≡ length cs → (d : List ℕ) → startSize (length hs) (length cs) + length hd ≤ length d
+    → layOctets (tagsOf hs) hf (tagsOf cs) fs hd d
+    ≡ stored d 0 (frontOf (columnsFrom (tagsOf hs) hf) (columnsFrom (tagsOf cs) fs) hd)
+front-laid hs cs hf fs hd h k p q d l =
+    let t : length (tagsOf hs) ≡ length hs = tags-long hs in
+    let u : length (tagsOf cs) ≡ length cs = tags-long cs in
+    lay-stored (tagsOf hs) hf (tagsOf cs) fs hd d (begin-taken hs cs hf fs h k p q (length d) (omega arith)) (omega arith)
 
 -- columns as they are read, with their two bits: the unused ones become zero
 pub plain-laid : (hs cs : List Column) (hd : List ℕ) → SoundTable hs → SoundTable cs → (d : List ℕ)
