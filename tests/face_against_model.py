@@ -261,6 +261,17 @@ def read(face, rng):
         face.judge(books.small_book()[:length])
 
 
+def passed_over(stream):
+    """A state that no calls leave and that isn't out of turn is taken as it is (decision 13): the next column made 1."""
+    columns = [(0x30010003, 0), (0x30020003, 0)]
+    stream.play(200, [make.begin_call(columns, columns), make.OPEN])
+    stream.writing.next = 1
+    stream.state.rest[4] = 1
+    for tag, _ in columns:
+        stream.call(b'\x03' + oab.four(tag) + oab.four(5))
+    stream.call(make.CLOSE)
+
+
 def serials(face, rng):
     """The library takes short runs octet by octet and long ones by words of eight, with up to seven octets left over."""
     for length in list(range(301)) + [1000, 4099, 65536, 100003]:
@@ -278,6 +289,7 @@ def main():
     make.writing_begins(stream, rng)
     make.writing_refusals(stream, rng)
     make.writing_keys(stream, rng)
+    passed_over(stream)
     for _ in range(100):
         table = books.some_table(rng, header=rng.randrange(6), address=rng.choice((0, 1, 2, 5, 8, 9)), most=4)
         stream.play(len(oab.write_book(*table)) + rng.choice((-1, 0, 0, 9)), make.book_calls(table))
