@@ -1,4 +1,5 @@
 // A book judged, the columns of its tables, and the serial of any octets.
+use answers::MOST_COLUMNS;
 use book::Judged;
 use book::Judgement;
 use table::Columns;
@@ -70,13 +71,13 @@ fn table_of(j: Judgement, address: u32) -> Columns
     j.address
 }
 
-// The tags and the flags of a table, each with zeros behind up to 128; place and how many columns it has.
+// The tags and the flags of a table, each with zeros behind; place and how many columns it has.
 #[no_mangle]
 pub extern "C" fn wt_columns(
     book: &[u8],
     address: u32,
-    tags: &mut [u32; 128],
-    flags: &mut [u32; 128],
+    tags: &mut [u32; MOST_COLUMNS],
+    flags: &mut [u32; MOST_COLUMNS],
     out: &mut [u64; 2],
 ) -> u32
     ensures { λ r. ⌜ (r ≡ judgedNumber (judgedOf (now (book .entry)) .judged))
