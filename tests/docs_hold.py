@@ -1,7 +1,7 @@
-"""Checks that what the docs name is there: definitions, functions and proofs of docs/WHERE.md, theorems of docs/PROMISES.md and
-docs/CONTRACTS.md; that a function named in WHERE promises, by its contract, what the definition beside it says; the wrong programs
-that CONTRACTS names, and that every kept one is named. Of every public call of the library: that it has a contract, has no
-`requires`, and is in CONTRACTS.
+"""Checks that what the docs name is there: definitions, functions and proofs of docs/WHERE.md, theorems of
+docs/PROMISES.md and docs/CONTRACTS.md; that a function named in WHERE promises, by its contract, what the definition
+beside it says; the wrong programs that CONTRACTS names, and that every kept one is named. Of every public call of the
+library: that it has a contract, has no `requires`, and is in CONTRACTS.
 
 Run from the top: python3 tests/docs_hold.py. Ends with "N names, 0 missing".
 """
@@ -77,13 +77,14 @@ def contract(path, name):
 
 def statement(path, name):
     """What a law says, up to its proof."""
-    found = re.search(r'^ *pub ' + re.escape(name) + r' :(.*?)^ *(?:unfolding|' + re.escape(name) + r')\b', path.read_text(), re.M | re.S)
+    law = re.escape(name)
+    found = re.search(rf'^ *pub {law} :(.*?)^ *(?:unfolding|{law})\b', path.read_text(), re.M | re.S)
     return found[1] if found else ''
 
 
 def cites(text):
-    """What a row's functions promise is what its definitions say: each contract leads to one of them, and each of them is
-    led to by a contract, or by what a law beside it says."""
+    """What a row's functions promise is what its definitions say: each contract leads to one of them, and each of them
+    is led to by a contract, or by what a law beside it says."""
     says = meanings()
     for line in text.splitlines():
         cells = line.strip('|').split('|')
@@ -94,7 +95,8 @@ def cites(text):
         functions = [(name, CRATES / path) for name, path in pairs(cells[2]) if not path.endswith('main.rt')]
         laws = [(name, CRATES / path) for name, path in pairs(cells[3]) if path.endswith('.antt')]
         promised = {name: reached(contract(path, name), says) for name, path in functions if path.is_file()}
-        said = set().union(*promised.values(), *(reached(statement(path, name), says) for name, path in laws if path.is_file()))
+        stated = [reached(statement(path, name), says) for name, path in laws if path.is_file()]
+        said = set().union(*promised.values(), *stated)
         if definitions and promised:
             for name in promised:
                 want(promised[name] & definitions, f'{row}: one of {sorted(definitions)} in what {name} promises')
@@ -154,7 +156,8 @@ def calls():
                 if path != lib and not found[1] and name not in handed:
                     continue
                 head = found[3]
-                want(' ensures {' in head and ' requires {' not in head, f'a contract without requires of {crate}::{name}')
+                good = ' ensures {' in head and ' requires {' not in head
+                want(good, f'a contract without requires of {crate}::{name}')
                 want(re.search(r'\b' + name + r'\b', text), f'{crate}::{name} in docs/CONTRACTS.md')
 
 

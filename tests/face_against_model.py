@@ -262,7 +262,7 @@ def read(face, rng):
 
 
 def passed_over(stream):
-    """A state that no calls leave and that isn't out of turn is taken as it is (decision 13): the next column made 1."""
+    """A state that no calls leave and that isn't out of turn is taken as it is (decision 13): next column 1."""
     columns = [(0x30010003, 0), (0x30020003, 0)]
     stream.play(200, [make.begin_call(columns, columns), make.OPEN])
     stream.writing.next = 1
@@ -273,7 +273,7 @@ def passed_over(stream):
 
 
 def serials(face, rng):
-    """The library takes short runs octet by octet and long ones by words of eight, with up to seven octets left over."""
+    """The library takes short runs octet by octet and long ones by words of eight, up to seven octets left over."""
     for length in list(range(301)) + [1000, 4099, 65536, 100003]:
         face.serial(rng.randbytes(length))
 

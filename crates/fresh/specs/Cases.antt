@@ -5,8 +5,10 @@ use mathlib.Core.Path.{_≡_, sym, ap, _∙_}
 use mathlib.Core.List.{List, _++_}
 use lib.ListN.{length}
 use borrow.Author.Tests.{le-leb, lt-leb}
+use mir.Val.{Fits}
+use mir.Syntax.{w64}
 use Rattle.octets.specs.Splice.{stored, stored-join}
-use Rattle.answers.specs.Numbers.{noRoom, mostColumns}
+use Rattle.answers.specs.Numbers.{noRoom}
 use Rattle.answers.specs.declared.Verdict.{Verdict}
 use Rattle.answers.specs.declared.Verdict.the-variants.{Clear as clear, Refused}
 use Rattle.answers.specs.declared.Refusal.{Refusal}
@@ -15,6 +17,19 @@ use Rattle.begin.specs.Begin.{startSize, beginAt, columnsFrom, startOctets, beg
 use Rattle.begin.specs.Cases.{from-long, begin-in}
 use Rattle.begin.specs.Taken.{start-long}
 use Rattle.fresh.specs.Fresh.{frontOf, layAt, layOctets}
+
+-- what begin takes is few, and has room
+module _ (ht hf ts fs d : List ℕ) (v : Verdict) (e : v ≡ beginAt ht hf ts fs (length d)) (z : v ≡ clear) where
+  pub rows-fit : Fits w64 (8 * (length ht + length ts))
+  rows-fit = let c = begin-in ht hf ts fs (length d) (sym e ∙ z) in record { fits = omega (arith, c .few, c .low) }
+
+  pub start-fits : Fits w64 (24 + 8 * (length ht + length ts))
+  start-fits = let c = begin-in ht hf ts fs (length d) (sym e ∙ z) in record { fits = omega (arith, c .few, c .low) }
+
+  pub start-in : 24 + 8 * (length ht + length ts) ≤ length d
+  start-in = begin-in ht hf ts fs (length d) (sym e ∙ z) .room
+
+pub ruleset starts = (rows-fit, start-fits, start-in)
 
 module _ (ht hf ts fs hd d : List ℕ) (v : Verdict) (e : v ≡ beginAt ht hf ts fs (length d)) where
   pub lay-refused : (r : Refusal) → v ≡ Refused r → v ≡ layAt ht hf ts fs hd (length d)
@@ -26,10 +41,6 @@ module _ (ht hf ts fs hd d : List ℕ) (v : Verdict) (e : v ≡ beginAt ht hf ts
   lay-left r z = rw (← e, z)
 
   module _ (z : v ≡ clear) where
-    -- what begin takes is few, and has room
-    pub lay-few : (length ht ≤ mostColumns) × (length ts ≤ mostColumns) × (24 + 8 * (length ht + length ts) ≤ length d)
-    lay-few = let c = begin-in ht hf ts fs (length d) (sym e ∙ z) in (c .few, c .low, c .room)
-
     module _ (h : length d - (24 + 8 * (length ht + length ts)) < length hd) where
       pub lay-short : (u : Verdict) → u ≡ refused noRoom 0 → u ≡ layAt ht hf ts fs hd (length d)
       unfolding layAt
@@ -45,7 +56,7 @@ module _ (ht hf ts fs hd d : List ℕ) (v : Verdict) (e : v ≡ beginAt ht hf ts
 
     module _ (h : length hd ≤ length d - (24 + 8 * (length ht + length ts))) where
       fits : startSize (length ht) (length ts) + length hd ≤ length d
-      fits = let f = lay-few in omega (arith, f .2)
+      fits = omega (arith, start-in ht hf ts fs d v e z)
 
       pub lay-done : v ≡ layAt ht hf ts fs hd (length d)
       unfolding layAt

@@ -57,7 +57,8 @@ pub front-laid : (hs cs : List Column) (hf fs hd : List ℕ) → SoundTable hs �
 front-laid hs cs hf fs hd h k p q d l =
     let t : length (tagsOf hs) ≡ length hs = tags-long hs in
     let u : length (tagsOf cs) ≡ length cs = tags-long cs in
-    lay-stored (tagsOf hs) hf (tagsOf cs) fs hd d (begin-taken hs cs hf fs h k p q (length d) (omega arith)) (omega arith)
+    let taken = begin-taken hs cs hf fs h k p q (length d) (omega arith) in
+    lay-stored (tagsOf hs) hf (tagsOf cs) fs hd d taken (omega arith)
 
 -- columns as they are read, with their two bits: the unused ones become zero
 pub plain-laid : (hs cs : List Column) (hd : List ℕ) → SoundTable hs → SoundTable cs → (d : List ℕ)

@@ -1,5 +1,5 @@
-// A view of a book: it holds the book's slice and the place where a record starts. Its functions are thin: each takes the
-// view apart and leaves the work to functions on plain parameters. Other code calls `value_at` and `value_of`, whose
+// A view of a book: it holds the book's slice and the place where a record starts. Its functions are thin: each takes
+// the view apart and leaves the work to functions on plain parameters. Other code calls `value_at` and `value_of`, whose
 // parameters are plain. Each call judges the book once.
 use lookup::Looked;
 use lookup::Which;

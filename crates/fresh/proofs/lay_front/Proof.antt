@@ -1,5 +1,4 @@
-use native.Mathlib.Omega.{arith}
-use Rattle.fresh.specs.Cases.{lay-refused, lay-left, lay-few, lay-short, lay-kept, lay-done, lay-put}
+use Rattle.fresh.specs.Cases.{starts, lay-refused, lay-left, lay-short, lay-kept, lay-done, lay-put}
 use borrow.Author.Needs.{needs}
 use Rattle.fresh.proofs.lay_front.Statement.{statement}
 use Rattle.fresh.proofs.lay_front.Tie as tie
@@ -27,25 +26,13 @@ add-at : tie.Need-add-at
 add-at c = search needs
 
 mul-at : tie.Need-mul-at
-mul-at c =
-    let f = lay-few _ _ _ _
-    (c .before .before .before .before .before .before .before .before .before .args .head .now)
-    (c .before .before .before .before .before .before .before .before .before .args .out .now) _
-    (c .before .before .judge-begin .ensures) (search needs) in omega (arith, f .0, f .1)
+mul-at c = search starts
 
 add-at-2 : tie.Need-add-at-2
-add-at-2 c =
-    let f = lay-few _ _ _ _
-    (c .before .before .before .before .before .before .before .before .before .args .head .now)
-    (c .before .before .before .before .before .before .before .before .before .args .out .now) _
-    (c .before .before .judge-begin .ensures) (search needs) in omega (arith, f .0, f .1)
+add-at-2 c = search starts
 
 sub-if1 : tie.Need-sub-if1
-sub-if1 c =
-    let f = lay-few _ _ _ _
-    (c .before .before .before .before .before .before .before .before .before .args .head .now)
-    (c .before .before .before .before .before .before .before .before .before .args .out .now) _
-    (c .before .before .judge-begin .ensures) (search needs) in omega (arith, f .2)
+sub-if1 c = search starts
 
 refuse-requires : tie.Need-refuse-requires
 refuse-requires c κs = search needs
