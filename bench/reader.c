@@ -141,7 +141,7 @@ uint8_t form_of(uint32_t tag) {
     switch (tag & 0xFFFF) {
     case 0x0003: return 1;
     case 0x000B: return 2;
-    case 0x000D: return 0;
+    case 0x000D:
     case 0x001E: return 3;
     case 0x001F: return 4;
     case 0x0102: return 5;

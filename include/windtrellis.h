@@ -35,7 +35,7 @@ extern "C" {
 
 /* 10,000 for each version, 100 for each change that adds calls, 1 for each other one. wt_version answers that of the
  * library which the program runs with. */
-#define WT_VERSION 10000u
+#define WT_VERSION 10001u
 uint32_t wt_version(void);
 
 /* Answers. */
@@ -152,7 +152,8 @@ uint32_t wt_give_number(wt_writing *WT_RESTRICT state, uint8_t *WT_RESTRICT buff
 uint32_t wt_give_truth(wt_writing *WT_RESTRICT state, uint8_t *WT_RESTRICT buffer, size_t octets, uint32_t tag,
     uint32_t yes);
 
-/* Octets without their length, strings without their 00. Room: written + value_octets + 5 is enough. */
+/* Octets (0102) without their length, strings (000D, 001E, 001F) without their 00. Room: written + value_octets + 5 is
+ * enough. */
 uint32_t wt_give_octets(wt_writing *WT_RESTRICT state, uint8_t *WT_RESTRICT buffer, size_t octets, uint32_t tag,
     const uint8_t *WT_RESTRICT value, size_t value_octets);
 

@@ -13,7 +13,10 @@ _oab_names="
     AddressBookHierarchicalIsHierarchicalGroup AddressBookObjectGuid AddressBookSenderHintTranslations
     AddressBookDeliveryContentLength AddressBookModerationEnabled AddressBookDistributionListMemberCount
     AddressBookDistributionListExternalMemberCount AddressBookMember AddressBookIsMemberOfDistributionList
-    OfflineAddressBookTruncatedProperties
+    OfflineAddressBookTruncatedProperties ThumbnailPhoto SpokenName AddressBookAuthorizedSenders
+    AddressBookUnauthorizedSenders AddressBookDistributionListMemberSubmitAccepted
+    AddressBookDistributionListMemberSubmitRejected AddressBookDistributionListRejectMessagesFromDLMembers
+    AddressBookManager
 "
 
 _oab() {

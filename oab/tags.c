@@ -1,5 +1,5 @@
-/* Tags: the names that MS-OXOAB's tables 2.9.2.1 (header record) and 2.9.2.2 (address records) give them, less PidTag;
- * and tags read from words. */
+/* Tags: the names that MS-OXOAB's tables 2.9.2.1 (header record), 2.9.2.2 and 2.9.2.2.1 (address records) give them,
+ * less PidTag, and the manager's, which only 2.6 names; and tags read from words. */
 #include "tags.h"
 #include "spelling.h"
 #include <string.h>
@@ -67,6 +67,14 @@ static const struct {
     { 0x8009101e, "AddressBookMember" },
     { 0x8008101e, "AddressBookIsMemberOfDistributionList" },
     { 0x68051003, "OfflineAddressBookTruncatedProperties" },
+    { 0x8c9e0102, "ThumbnailPhoto" },
+    { 0x8cc20102, "SpokenName" },
+    { 0x8cd8000d, "AddressBookAuthorizedSenders" },
+    { 0x8cd9000d, "AddressBookUnauthorizedSenders" },
+    { 0x8073000d, "AddressBookDistributionListMemberSubmitAccepted" },
+    { 0x8cda000d, "AddressBookDistributionListMemberSubmitRejected" },
+    { 0x8cdb000d, "AddressBookDistributionListRejectMessagesFromDLMembers" },
+    { 0x8005000d, "AddressBookManager" },
 };
 
 enum { NAMED = sizeof named / sizeof *named };

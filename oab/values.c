@@ -6,17 +6,18 @@
 #include <inttypes.h>
 #include <string.h>
 
-enum kind { NUMBER, TRUTH, NARROW, TEXT, BINARY, NOTHING };
+enum kind { NUMBER, TRUTH, OBJECT, NARROW, TEXT, BINARY, NO_KIND };
 
 static enum kind kind_of(uint32_t tag)
 {
     switch (tag & 0xefff) {
     case 0x0003: return NUMBER;
     case 0x000b: return TRUTH;
+    case 0x000d: return OBJECT;
     case 0x001e: return NARROW;
     case 0x001f: return TEXT;
     case 0x0102: return BINARY;
-    default: return NOTHING;
+    default: return NO_KIND;
     }
 }
 
@@ -27,8 +28,8 @@ static int is_list(uint32_t tag)
 
 const char *type_words(uint32_t tag)
 {
-    static const char *const one[] = { "number", "yes-or-no", "narrow", "text", "binary", "nothing" };
-    static const char *const many[] = { "numbers", "yes-or-nos", "narrows", "texts", "binaries", "nothing" };
+    static const char *const one[] = { "number", "yes-or-no", "object", "narrow", "text", "binary", "unknown" };
+    static const char *const many[] = { "numbers", "yes-or-nos", "objects", "narrows", "texts", "binaries", "unknown" };
     return (is_list(tag) ? many : one)[kind_of(tag)];
 }
 
@@ -87,6 +88,7 @@ static size_t print_item(FILE *to, enum kind kind, const uint8_t *s, size_t n, u
         if (how & IN_JSON) fputs(s[0] ? "true" : "false", to);
         else fputs(s[0] ? "yes" : "no", to);
         return 1;
+    case OBJECT:
     case NARROW: return print_text(to, s, n, how | AS_NARROW);
     case TEXT: return print_text(to, s, n, how);
     case BINARY: return print_binary(to, s, n, how);

@@ -194,8 +194,6 @@ def ground_values(add, rng):
             add(3, two(code) + books.broken_value(rng, code))
             add(3, two(code) + books.broken_value(rng, code) + b'a\0')
             add(3, two(code) + books.cut_value(rng, code))
-            if code == oab.OBJECT:
-                continue
             value = books.some_value(rng, code, 9)
             add(3, two(code) + value)
             add(3, two(code) + value[:-1])
@@ -503,6 +501,10 @@ def make_lookup():
 
     for book in (books.small_book(), books.sample_book()):
         ask_all(oab.table_of(book), new(book), 1.0)
+    ask_all(books.MANAGER_TABLE, new(books.octets_of(books.MANAGER_TABLE)), 1.0)
+    for tag in (books.MANAGER, 0x8005001E, 0x8005001F):
+        for record in (HEADER_RECORD, 0, 1, 2):
+            ask(books.octets_of(books.MANAGER_TABLE), record, tag)
     for _ in range(170):
         table = books.some_table(rng, records=rng.choice((1, 2, 3, 4)))
         ask_all(table, new(books.octets_of(table)), 0.8)
@@ -821,8 +823,28 @@ def writing_keys(stream, rng):
                         + [CLOSE, everything[missing], CLOSE, OPEN, FINISH])
             stream.play(24 + 16 * count + 400, [begin_call(columns, columns), OPEN] + some + [CLOSE, OPEN] + everything
                         + [CLOSE, FINISH, CLOSE])
-    # A key of type 000D can't be satisfied (decision 9).
-    stream.play(100, [begin_call([], [(0x8CD8000D, 2)]), OPEN, CLOSE, OPEN, b'\x05' + oab.four(0x8CD8000D) + b'a', CLOSE, FINISH])
+
+
+def writing_managers(stream):
+    """Request 102: a 000D value is handed over as octets, without the 00, and by no other call; as a key it is due."""
+    tag = oab.four(books.MANAGER)
+    wrong = [b'\x03' + tag + oab.four(1), b'\x04' + tag + b'\x01', b'\x06' + tag + oab.four(1), b'\x05' + tag,
+             b'\x05' + tag + b'\0', b'\x05' + tag + b'a\0', b'\x05' + tag + b'a\0b']
+    for value in (b'a', b'/o=house/cn=eve', bytes(range(1, 256))):
+        table = ([(books.MANAGER, 2)], [(books.MANAGER, 2), (0x39FE001F, 0)], [value + b'\0'],
+                 [[value + b'\0', b'a@b\0'], [value + b'\0', None]])
+        book, calls = oab.write_book(*table), book_calls(table)
+        assert stream.play(len(book), calls) == ('done', len(book)) and stream.buffer == book
+        stream.play(len(book) - 1, calls)
+        mixed, opened = [], 0
+        for call in calls:                     # each wrong one is 18; a close in front of the key is 16
+            opened += call == OPEN
+            if call.startswith(b'\x05' + tag):
+                mixed += wrong + [CLOSE] * (opened > 1)
+            mixed.append(call)
+        assert stream.play(len(book), mixed) == ('done', len(book)) and stream.buffer == book
+    stream.play(100, [begin_call([], [(books.MANAGER, 2)]), OPEN, CLOSE, OPEN, CLOSE, b'\x05' + tag + b'a', CLOSE,
+                      FINISH])
 
 
 def grown(stream, rng, call):
@@ -865,6 +887,7 @@ def make_writing():
     writing_begins(stream, rng)
     writing_refusals(stream, rng)
     writing_keys(stream, rng)
+    writing_managers(stream)
     for _ in range(120):                       # whole books: exact room, one short, some more
         table = books.some_table(rng, header=rng.randrange(6), address=rng.choice((0, 1, 2, 5, 8, 9)), most=4)
         book, calls = oab.write_book(*table), book_calls(table)
@@ -1007,7 +1030,7 @@ def correct_table(table, payload):
 
 def wrong_encoding(rng, type_code):
     """An offered value that breaks its form: cut, with octets behind, broken, of another type."""
-    good = b'a\0' if type_code == oab.OBJECT else books.some_value(rng, type_code, 4)
+    good = books.some_value(rng, type_code, 4)
     return rng.choice((b'', good[:-1], good + b'\0', good + good, books.broken_value(rng, type_code),
                        books.cut_value(rng, type_code)))
 
@@ -1070,7 +1093,7 @@ def some_correction(rng, table, wrong):
     if what == 2:
         return clear_call(record, tag)
     type_code = oab.type_of(tag)
-    if type_code not in oab.TYPES or type_code == oab.OBJECT:
+    if type_code not in oab.TYPES:
         return set_call(record, tag, rng.choice((b'', b'a\0', b'\x01')))
     encoding = wrong_encoding(rng, type_code) if rng.random() < wrong else books.some_value(rng, type_code, rng.choice((1, 4, 12)))
     return set_call(record, tag, encoding)
@@ -1112,6 +1135,30 @@ def correcting_small(stream):
             stream.call(call)
         stream.state(78)
         stream.call(set_call(0, 0x3001001F, b'Q\0'))
+
+
+def correcting_managers(stream):
+    """Request 102: what a set of a 000D value takes and what it refuses, in both kinds of record; records with one."""
+    book = books.octets_of(books.MANAGER_TABLE)
+    values = (b'a\0', b'/o=house/cn=george\0', b'\x80\xFF\0', b'', b'\0', b'a', b'/o=house', b'a\0\0', b'a\0b\0',
+              b'\x01')
+    calls = [set_call(record, books.MANAGER, value) for record in (HEADER_RECORD, 0, 1, 2) for value in values]
+    calls += [clear_call(record, books.MANAGER) for record in (HEADER_RECORD, 0, 1, 2)]
+    calls += [set_call(0, books.MANAGER & ~0xFFFF | other, b'a\0') for other in (oab.NARROW, oab.TEXT)]
+    rows = [[b'a@b\0', value, b'George\0'] for value in values[:3]] + [[b'a@b\0', None, None]]
+    calls += [insert_call(1, oab.record_octets(row)) for row in rows]
+    calls += [insert_call(1, books.RecordDraft([b'a@b\0', value, None]).octets()) for value in values[3:]]
+    calls += [delete_call(1)]
+    for call in calls:
+        stream.new(book, 80)
+        if stream.call(call)[0] == 'done':
+            table = correct_table(books.MANAGER_TABLE, call)
+            assert stream.buffer[:stream.length] == oab.write_book(*table)
+    more = len(b'george') - len(b'J\xFCrg')
+    for room in (more - 1, more):
+        stream.new(book, room)
+        answer = stream.call(set_call(1, books.MANAGER, b'/o=house/cn=george\0'))
+        assert answer == (('done', len(book) + more) if room == more else ('refused', 17, 0))
 
 
 def probe(buffer, length, payload):
@@ -1177,6 +1224,7 @@ def make_correcting():
     stream = CorrectingStream()
     rng = random.Random(505)
     correcting_small(stream)
+    correcting_managers(stream)
     correcting_chains(stream, rng)
     correcting_rooms(stream, rng)
     correcting_damaged(stream, rng)
@@ -1192,7 +1240,8 @@ def make_correcting():
 def make_examples():
     folder = TOP / 'examples'
     folder.mkdir(parents=True, exist_ok=True)
-    for name, book in (('small', books.small_book()), ('sample', books.sample_book())):
+    for name, book in (('small', books.small_book()), ('sample', books.sample_book()),
+                       ('manager', books.octets_of(books.MANAGER_TABLE))):
         (folder / f'{name}.book').write_bytes(book)
         (folder / f'{name}.listing').write_text(oab.listing(book))
 

@@ -16,7 +16,7 @@ from oab_tools import content, differs, run
 
 from model import books, oab, spelling
 
-TAGS = {kind: 0x80000000 | number << 16 | kind for number, kind in enumerate(oab.TYPES) if kind != oab.OBJECT}
+TAGS = {kind: 0x80000000 | number << 16 | kind for number, kind in enumerate(oab.TYPES)}
 
 
 def book_of(values):
@@ -45,6 +45,7 @@ def all_values():
         yield oab.YES_OR_NO, truth
     for one in [*singles, octets, b'CONTOSO\\ann', b'\\x41', b'\\\\', b' a ', b'-o', b'\xE9']:
         yield oab.NARROW, one + b'\0'
+        yield oab.OBJECT, one + b'\0'
     for one in ['CONTOSO\\ann', '\\x41', '\\\\', ' a ', '-o', '\t', '\n', '\r\n', '\x1b[2J', '\x85', '\u202e', 'Zoë',
                 '"', "'", '#']:
         yield oab.TEXT, one.encode() + b'\0'

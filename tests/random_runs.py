@@ -57,7 +57,7 @@ def some_word(rng, table):
 def some_words(rng, table):
     """A command line that often makes sense."""
     tag = rng.choice([tag for tag, _ in table[1]]) if table and table[1] else 0x3001001F
-    kind = oab.type_of(tag) if oab.type_of(tag) != oab.OBJECT else oab.TEXT
+    kind = oab.type_of(tag)
     value = spelling.words(kind, books.some_value(rng, kind))
     right = {'show': ['book', '0', 'header'], 'get': ['book', '0', f'{tag:08X}'],
              'set': ['book', '0', f'{tag:08X}', '--', *value],

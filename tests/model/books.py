@@ -18,6 +18,16 @@ SMALL_TABLE = (
     [[b'b@c\0', None, b'\x02x\0yz\0']],
 )
 
+# A manager column, type 000D (2.6), in both tables: a key that binds in the address records alone.
+MANAGER = 0x8005000D
+MANAGER_TABLE = (
+    [(0x6800001F, 0), (MANAGER, 2)],
+    [(0x39FE001F, 2), (MANAGER, 2), (0x3001001F, 0)],
+    [b'House\0', b'/o=house/cn=kit\0'],
+    [[b'ann@house.example\0', b'/o=house/cn=eve\0', b'Ann\0'],
+     [b'eve@house.example\0', b'/o=house/cn=J\xFCrg\0', None]],
+)
+
 # Document 01, "A whole small book", with 00 for the four octets of the serial.
 SMALL_HEX = '''
 20 00 00 00 00 00 00 00 01 00 00 00
@@ -119,12 +129,12 @@ def some_binary(rng, most=6):
 
 
 def some_value(rng, type_code, most=6):
-    """The encoding of a random good value; the type is any but 000D."""
+    """The encoding of a random good value."""
     if type_code == oab.NUMBER:
         return oab.encode_number(some_number(rng))
     if type_code == oab.YES_OR_NO:
         return bytes([rng.randint(0, 1)])
-    if type_code == oab.NARROW:
+    if type_code in (oab.OBJECT, oab.NARROW):
         return some_narrow(rng, most) + b'\0'
     if type_code == oab.TEXT:
         return some_text(rng, most) + b'\0'
@@ -154,9 +164,7 @@ def broken_value(rng, type_code):
         return rng.choice(BAD_NUMBERS)
     if type_code == oab.YES_OR_NO:
         return bytes([rng.choice((2, 3, 0x7F, 0x80, 0x81, 0xFF))])
-    if type_code == oab.OBJECT:
-        return rng.choice((b'\0', b'a\0', b'\x01', b'/o=a\0'))
-    if type_code == oab.NARROW:
+    if type_code in (oab.OBJECT, oab.NARROW):
         return b'\0'
     if type_code == oab.TEXT:
         if rng.random() < 0.2:
@@ -178,7 +186,7 @@ def cut_value(rng, type_code):
     """Octets with which a record ends too soon: the value passes its end."""
     if type_code == oab.YES_OR_NO or type_code not in oab.TYPES:
         return b''
-    if type_code in (oab.OBJECT, oab.NARROW, oab.TEXT):
+    if type_code in oab.STRINGS:
         return rng.choice((b'', b'a', b'abc'))
     if type_code == oab.NUMBER:
         return rng.choice((b'', b'\x81', b'\x82\x05', b'\x83\x01\x01', b'\x84\x01\x01\x01'))
@@ -194,11 +202,10 @@ COLUMN_COUNTS = (0, 1, 2, 3, 5, 7, 8, 9, 15, 16, 17)
 WIDE_COUNTS = (126, 127, 128)
 
 
-def some_columns(rng, count, address, junk):
+def some_columns(rng, count, junk):
     """Unlike tags; upper halves from a small store, so that some share theirs.
 
-    Junk: the 30 unused flag bits may be non-zero. No key of type 000D in an address
-    table, since no record could satisfy it.
+    Junk: the 30 unused flag bits may be non-zero.
     """
     halves = (0x3001, 0x3003, 0x39FE, 0x3A00, 0x6800, 0x6805, 0x8009, 0x800F, 0x0000, 0xFFFF)
     store = [half << 16 | t for half in halves for t in oab.TYPES]
@@ -207,8 +214,6 @@ def some_columns(rng, count, address, junk):
     columns = []
     for tag in rng.sample(store, count):
         flags = rng.choice((0, 0, 0, 1, 2, 3))
-        if address and oab.type_of(tag) == oab.OBJECT:
-            flags &= 1
         if junk and rng.random() < 0.5:
             flags |= rng.getrandbits(30) << 2
         columns.append((tag, flags))
@@ -219,10 +224,7 @@ def some_row(rng, columns, keys_bind, chance=0.5, most=6):
     row = []
     for tag, flags in columns:
         bound = keys_bind and flags & oab.KEY
-        if oab.type_of(tag) == oab.OBJECT or not (bound or rng.random() < chance):
-            row.append(None)
-        else:
-            row.append(some_value(rng, oab.type_of(tag), most))
+        row.append(some_value(rng, oab.type_of(tag), most) if bound or rng.random() < chance else None)
     return row
 
 
@@ -232,8 +234,8 @@ def some_table(rng, header=None, address=None, records=None, junk=None, most=6):
     address = rng.choice(COLUMN_COUNTS) if address is None else address
     records = rng.choice((1, 1, 2, 3, 4)) if records is None else records
     junk = rng.random() < 0.3 if junk is None else junk
-    header_columns = some_columns(rng, header, False, junk)
-    address_columns = some_columns(rng, address, True, junk)
+    header_columns = some_columns(rng, header, junk)
+    address_columns = some_columns(rng, address, junk)
     chance = rng.choice((0.1, 0.5, 0.5, 0.9, 1.0))
     if max(header, address) > 60:
         chance = rng.choice((0.05, 0.2))
@@ -444,23 +446,6 @@ def fault_value_cut(draft, rng):
     return lambda: (11, draft.value_place(record, len(parts.values) - 1))
 
 
-def fault_object(draft, rng):
-    """A present value in a 000D column, whatever it looks like."""
-    record = some_record(draft, rng)
-    columns = draft.columns[0 if record == 0 else 1]
-    objects = [i for i, (tag, _) in enumerate(columns) if oab.type_of(tag) == oab.OBJECT]
-    if not objects:
-        return None
-    column = rng.choice(objects)
-    parts = draft.records[record]
-    if column in [i for i, _ in parts.values]:
-        return None
-    position = sum(i < column for i, _ in parts.values)
-    parts.values.insert(position, [column, rng.choice((b'', b'a\0', b'\0', b'\x01'))])
-    parts.presence[column // 8] |= 0x80 >> column % 8
-    return lambda: (11, draft.value_place(record, position))
-
-
 def fault_left(draft, rng):
     record = some_record(draft, rng)
     parts = draft.records[record]
@@ -480,7 +465,7 @@ def fault_serial(draft, rng):
 
 FAULTS = (fault_version, fault_count_none_or_over, fault_count_more, fault_count_less, fault_no_records,
           fault_metadata_size, fault_columns_over, fault_type, fault_repeat, fault_size_small, fault_size_past,
-          fault_spare, fault_key, fault_value, fault_value_cut, fault_object, fault_left, fault_tail, fault_serial)
+          fault_spare, fault_key, fault_value, fault_value_cut, fault_left, fault_tail, fault_serial)
 
 
 def faulty(table, rng, fault):
@@ -617,13 +602,25 @@ def decision_books():
     for point in (0xFEFF, 0xFFFE, 0xFFFF, 0xFDD0, 0x1FFFF, 0x10FFFF, 1, 0x7F, 0x85):
         yield book([], [text], [], [[chr(point).encode() + b'\0']]), None
     yield book([], [(0x3003001E, 0)], [], [[b'\x80\xFF\xC0\x01\0']]), None
-    # Decision 9: a key column of type 000D can't be satisfied; in the header table it binds nothing.
-    manager = (0x8005000D, 2)
-    yield book([], [manager], [], [[None]]), (10, 40)
-    yield book([], [manager], [], [[b'a\0']]), (11, 41)
-    yield book([], [(0x8005000D, 0)], [], [[b'a\0']]), (11, 41)
-    yield book([manager], [(0x8005000D, 1)], [None], [[None]]), None
-    yield book([manager], [], [b'a\0'], [[]]), (11, 37)
+    # Request 102 (decision 9): a 000D value has the form of 001E, as a key too, which in the header table binds nothing.
+    yield octets_of(MANAGER_TABLE), None
+    for flags in (0, 2):
+        manager = (MANAGER, flags)
+        for value in (b'a\0', b'/o=house/cn=eve\0', b'\x80\xFF\xC0\x01\0', bytes(range(1, 256)) + b'\0'):
+            yield book([manager], [manager], [value], [[value], [value]]), None
+        yield book([], [manager], [], [[None]]), (10, 40) if flags else None
+        yield book([manager], [(MANAGER, 1)], [None], [[None]]), None
+        # Empty; unterminated; past the record's end, where the next record's size has a 00.
+        for value in (b'\0', b'a', b'', b'/o=house/cn=eve'):
+            yield book([], [manager], [], [[value]]), (11, 41)
+            yield book([], [manager], [], [[value], [b'a\0']]), (11, 41)
+            yield book([], [manager], [], [[b'a\0'], [value]]), (11, 48)
+            yield book([manager], [], [value], [[]]), (11, 37)
+            yield book([manager], [manager], [value], [[b'a\0']]), (11, 45)
+        # It ends behind its 00: another value may stand there, octets left over may not.
+        yield book([], [manager, text], [], [[b'a\0', b'b\0']]), None
+        yield book([], [manager, text], [], [[b'a\0', b'\0']]), (11, 51)
+        yield book([], [manager], [], [[b'a\0b\0']]), (12, 43)
     # Keys in the header table bind nothing; the same tag in both tables; unused flag bits.
     yield book([(0x3001001F, 3)], [(0x3001001F, 2)], [None], [[b'a\0']]), None
     yield book([(0x3001001F, 0xFFFFFFFF)], [(0x3001001F, 0xFFFFFFFD)], [None], [[None]]), None

@@ -1,4 +1,5 @@
-"""The names of tags: MS-OXOAB's tables 2.9.2.1 (header record) and 2.9.2.2 (address records), less PidTag."""
+"""The names of tags: MS-OXOAB's tables 2.9.2.1 (header record), 2.9.2.2 and 2.9.2.2.1 (address records), less PidTag,
+and the manager's, which only 2.6 names."""
 
 NAMES = {
     0x6800001F: 'OfflineAddressBookName',
@@ -59,4 +60,12 @@ NAMES = {
     0x8009101E: 'AddressBookMember',
     0x8008101E: 'AddressBookIsMemberOfDistributionList',
     0x68051003: 'OfflineAddressBookTruncatedProperties',
+    0x8C9E0102: 'ThumbnailPhoto',
+    0x8CC20102: 'SpokenName',
+    0x8CD8000D: 'AddressBookAuthorizedSenders',
+    0x8CD9000D: 'AddressBookUnauthorizedSenders',
+    0x8073000D: 'AddressBookDistributionListMemberSubmitAccepted',
+    0x8CDA000D: 'AddressBookDistributionListMemberSubmitRejected',
+    0x8CDB000D: 'AddressBookDistributionListRejectMessagesFromDLMembers',
+    0x8005000D: 'AddressBookManager',
 }

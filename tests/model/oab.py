@@ -17,6 +17,8 @@ KEY = 2                   # flag bit 1: the column is a key
 NUMBER, YES_OR_NO, OBJECT, NARROW, TEXT, BINARY = 0x0003, 0x000B, 0x000D, 0x001E, 0x001F, 0x0102
 # The four list types and the type of their elements.
 ELEMENT = {0x1003: NUMBER, 0x101E: NARROW, 0x101F: TEXT, 0x1102: BINARY}
+# 000D, a reference to another entry, has the form of 001E (2.9.6.3, request 102).
+STRINGS = (OBJECT, NARROW, TEXT)
 TYPES = (NUMBER, YES_OR_NO, OBJECT, NARROW, TEXT, BINARY, 0x1003, 0x101E, 0x101F, 0x1102)
 
 
@@ -125,9 +127,7 @@ def walk(type_code, part):
         return None if got is None else got[1]
     if type_code == YES_OR_NO:
         return 1 if len(part) >= 1 and part[0] in (0, 1) else None
-    if type_code == OBJECT:
-        return None                            # no value form in the base version
-    if type_code in (NARROW, TEXT):
+    if type_code in STRINGS:
         zero = bytes(part).find(0)
         if zero < 1:                           # no final 00, or nothing before it
             return None
@@ -558,7 +558,7 @@ def encoding(type_code, kind, value):
         return encode_number(value)
     if type_code == YES_OR_NO and kind == 'yes or no':
         return bytes([1 if value else 0])
-    if type_code in (NARROW, TEXT) and kind == 'octets':
+    if type_code in STRINGS and kind == 'octets':
         octets = bytes(value) + b'\0'
     elif type_code == BINARY and kind == 'octets' and len(value) <= 0xFFFFFFFF:
         octets = encode_number(len(value)) + bytes(value)

@@ -8,7 +8,7 @@ import unicodedata
 
 from model import oab
 
-TYPE_WORDS = dict(zip(oab.TYPES, ('number', 'yes-or-no', 'nothing', 'narrow', 'text', 'binary', 'numbers', 'narrows',
+TYPE_WORDS = dict(zip(oab.TYPES, ('number', 'yes-or-no', 'object', 'narrow', 'text', 'binary', 'numbers', 'narrows',
                                   'texts', 'binaries')))
 
 
@@ -55,7 +55,7 @@ def word(value_type, value):
         return b'yes' if value[0] else b'no'
     if value_type == oab.BINARY:
         return value[oab.number_at(value)[1]:].hex().upper().encode()
-    return spelled(value[:-1], value_type == oab.NARROW)
+    return spelled(value[:-1], value_type != oab.TEXT)
 
 
 def words(value_type, value):

@@ -14,7 +14,7 @@ use Rattle.presence.specs.Presence.{setBit}
 use Rattle.whole.specs.Number.{encodeNumber}
 use Rattle.text.specs.Narrow.{narrowOf}
 use Rattle.text.specs.Utf8.{textOf}
-use Rattle.value.specs.Types.{Kind, nothing, number, truth, narrow, text, binary, Form, one, many, unknown, kindNumber, numberOf, formAt, formOf}
+use Rattle.value.specs.Types.{Kind, number, truth, narrow, text, binary, Form, one, many, unknown, kindNumber, numberOf, formAt, formOf}
 use Rattle.table.specs.Found.{isFound, columnOf}
 use Rattle.writing.specs.declared.Writing.{Writing}
 use Rattle.writing.specs.declared.Outcome.{Outcome}
@@ -42,7 +42,6 @@ isMany unknown = false
 
 -- octets that a kind of value takes
 abbrev pub octetsOf : Kind → List ℕ → Bool
-octetsOf nothing s = false
 octetsOf number s = false
 octetsOf truth s = false
 octetsOf narrow s = endsAt (narrowOf (s ++ (0 ∷ []))) (length s + 1)

@@ -18,7 +18,7 @@ use Rattle.answers.specs.Walk.{endsAt}
 use Rattle.whole.specs.Number.{encodeNumber}
 use Rattle.text.specs.Narrow.{narrowOf}
 use Rattle.text.specs.Utf8.{textOf}
-use Rattle.value.specs.Types.{Kind, nothing, number, truth, narrow, text, binary, Form, kindNumber, kindAt}
+use Rattle.value.specs.Types.{Kind, number, truth, narrow, text, binary, Form, kindNumber, kindAt}
 use Rattle.value.specs.Types.{formAt, listForm, formsEnd, unknownForm}
 use Rattle.writing.specs.declared.Writing.{Writing}
 use Rattle.writing.specs.State.{withinOf, roomAt}
@@ -83,40 +83,26 @@ sized f v w n = go (formed f v)
 
 -- ---- forms by their numbers
 
-kind-number : (n : ℕ) → n < 6 → kindNumber (kindAt n) ≡ n
+kind-number : (n : ℕ) → n < listForm → kindNumber (kindAt n) ≡ n
 kind-number zero h = refl
 kind-number (suc zero) h = refl
 kind-number (suc (suc zero)) h = refl
 kind-number (suc (suc (suc zero))) h = refl
 kind-number (suc (suc (suc (suc zero)))) h = refl
-kind-number (suc (suc (suc (suc (suc zero))))) h = refl
-kind-number (suc (suc (suc (suc (suc (suc n)))))) h = absurd (omega arith)
+kind-number (suc (suc (suc (suc (suc n))))) h = absurd (omega arith)
 
-kind-none : (n : ℕ) → 6 ≤ n → kindNumber (kindAt n) ≡ 0
-kind-none n h =
-    simp (
-      ne-eqb n (kindNumber number) (λ e. omega arith),
-      ne-eqb n (kindNumber truth) (λ e. omega arith),
-      ne-eqb n (kindNumber narrow) (λ e. omega arith),
-      ne-eqb n (kindNumber text) (λ e. omega arith),
-      ne-eqb n (kindNumber binary) (λ e. omega arith),
-    )
-
-kind-few : (k : Kind) → kindNumber k < 6
-kind-few nothing = omega arith
+kind-few : (k : Kind) → kindNumber k < listForm
 kind-few number = omega arith
 kind-few truth = omega arith
 kind-few narrow = omega arith
 kind-few text = omega arith
 kind-few binary = omega arith
 
-one-at : (k : Kind) (n : ℕ) → 1 ≤ kindNumber k → isOne k (formAt n) ≡ eqb n (kindNumber k)
+one-at : (k : Kind) (n : ℕ) → isOne k (formAt n) ≡ eqb n (kindNumber k)
 unfolding formAt
-one-at k n h =
+one-at k n =
     let m = kind-few k in
-    split n listForm
-    (λ i. rw (lt-ltb n listForm i) (split n 6 (λ j. rw (kind-number n j))
-    (λ j. rw (kind-none n j, ne-eqb 0 (kindNumber k) (λ e. omega arith), ne-eqb n (kindNumber k) (λ e. omega arith)))))
+    split n listForm (λ i. rw (lt-ltb n listForm i, kind-number n i))
     (λ i. split n formsEnd
     (λ j. rw (le-ltb n listForm i, lt-ltb n formsEnd j, ne-eqb n (kindNumber k) (λ e. omega arith)))
     (λ j. rw (le-ltb n listForm i, le-ltb n formsEnd j, ne-eqb n (kindNumber k) (λ e. omega arith))))
@@ -125,20 +111,18 @@ octets-other : (n : ℕ) (s : List ℕ) → (n ≡ kindNumber narrow → ⊥) �
     → (n ≡ kindNumber binary → ⊥) → octetsFormed (formAt n) s ≡ false
 unfolding formAt
 octets-other n s h₃ h₄ h₅ =
-    split n listForm
-    (λ i. rw (
-      lt-ltb n listForm i,
-      ne-eqb n (kindNumber narrow) h₃,
-      ne-eqb n (kindNumber text) h₄,
-      ne-eqb n (kindNumber binary) h₅,
-    ) (go (eqb n (kindNumber number)) (eqb n (kindNumber truth))))
+    split n listForm (λ i. rw (lt-ltb n listForm i) (go n i h₃ h₄ h₅))
     (λ i. split n formsEnd (λ j. rw (le-ltb n listForm i, lt-ltb n formsEnd j))
     (λ j. rw (le-ltb n listForm i, le-ltb n formsEnd j)))
   where
-    go : (a b : Bool) → octetsOf (cond a number (cond b truth nothing)) s ≡ false
-    go true b = refl
-    go false true = refl
-    go false false = refl
+    go : (n : ℕ) → n < listForm → (n ≡ kindNumber narrow → ⊥) → (n ≡ kindNumber text → ⊥)
+        → (n ≡ kindNumber binary → ⊥) → octetsOf (kindAt n) s ≡ false
+    go zero l h₃ h₄ h₅ = refl
+    go (suc zero) l h₃ h₄ h₅ = refl
+    go (suc (suc zero)) l h₃ h₄ h₅ = absurd (h₃ refl)
+    go (suc (suc (suc zero))) l h₃ h₄ h₅ = absurd (h₄ refl)
+    go (suc (suc (suc (suc zero)))) l h₃ h₄ h₅ = absurd (h₅ refl)
+    go (suc (suc (suc (suc (suc n))))) l h₃ h₄ h₅ = absurd (omega arith)
 
 -- ---- the ways of the sizes
 
@@ -156,16 +140,16 @@ module _ (f : ℕ) where
   element-none h i = rw (le-ltb f listForm h, le-ltb f formsEnd i)
 
   pub size-number : (k x : ℕ) → f ≡ kindNumber number → k ≡ length (encodeNumber x) → k ≡ sizeOf (formAt f) (Number x)
-  size-number k x e q = rw (one-at number f (omega arith), eq-eqb f (kindNumber number) e) q
+  size-number k x e q = rw (one-at number f, eq-eqb f (kindNumber number) e) q
 
   pub size-no-number : (x : ℕ) → (f ≡ kindNumber number → ⊥) → 0 ≡ sizeOf (formAt f) (Number x)
-  size-no-number x e = rw (one-at number f (omega arith), ne-eqb f (kindNumber number) e)
+  size-no-number x e = rw (one-at number f, ne-eqb f (kindNumber number) e)
 
   pub size-truth : f ≡ kindNumber truth → 1 ≡ sizeOf (formAt f) (Truth true)
-  size-truth e = rw (one-at truth f (omega arith), eq-eqb f (kindNumber truth) e)
+  size-truth e = rw (one-at truth f, eq-eqb f (kindNumber truth) e)
 
   pub size-no-truth : (f ≡ kindNumber truth → ⊥) → 0 ≡ sizeOf (formAt f) (Truth true)
-  size-no-truth e = rw (one-at truth f (omega arith), ne-eqb f (kindNumber truth) e)
+  size-no-truth e = rw (one-at truth f, ne-eqb f (kindNumber truth) e)
 
   module _ (n : ℕ) where
     pub size-count-none : n ≡ 0 → 0 ≡ sizeOf (formAt f) (Count n)
@@ -243,10 +227,10 @@ pub ruleset truths = (put-yes, put-no)
 
 module _ (f : ℕ) (s : List ℕ) where
   pub binary-octets : f ≡ kindNumber binary → octetsFor (formAt f) (Octets s) ≡ encodeNumber (length s) ++ s
-  binary-octets e = rw (one-at binary f (omega arith), eq-eqb f (kindNumber binary) e)
+  binary-octets e = rw (one-at binary f, eq-eqb f (kindNumber binary) e)
 
   pub string-octets : (f ≡ kindNumber binary → ⊥) → octetsFor (formAt f) (Octets s) ≡ s ++ (0 ∷ [])
-  string-octets e = rw (one-at binary f (omega arith), ne-eqb f (kindNumber binary) e)
+  string-octets e = rw (one-at binary f, ne-eqb f (kindNumber binary) e)
 
   pub binary-length : f ≡ kindNumber binary
       → length (octetsFor (formAt f) (Octets s)) ≡ length (encodeNumber (length s)) + length s

@@ -131,24 +131,18 @@ module _ (k : ℕ) {r : Walk} (s : List ℕ) where
   unfolding elementOf
   element-text e q = rw e q
 
-  pub element-binary : k ≡ kindNumber binary → r ≡ binaryOf s → r ≡ elementOf (kindAt k) s
+  pub element-binary : (k ≡ kindNumber number → ⊥) → (k ≡ kindNumber truth → ⊥) → (k ≡ kindNumber narrow → ⊥)
+      → (k ≡ kindNumber text → ⊥) → r ≡ binaryOf s → r ≡ elementOf (kindAt k) s
   unfolding elementOf
-  element-binary e q = rw e q
+  element-binary h₁ h₂ h₃ h₄ q =
+      rw (
+        ne-eqb k (kindNumber number) h₁,
+        ne-eqb k (kindNumber truth) h₂,
+        ne-eqb k (kindNumber narrow) h₃,
+        ne-eqb k (kindNumber text) h₄,
+      ) q
 
-pub element-none : (k : ℕ) (s : List ℕ) → (k ≡ kindNumber number → ⊥) → (k ≡ kindNumber truth → ⊥)
-    → (k ≡ kindNumber narrow → ⊥)
-    → (k ≡ kindNumber text → ⊥) → (k ≡ kindNumber binary → ⊥) → broken ≡ elementOf (kindAt k) s
-unfolding elementOf
-element-none k s h₁ h₂ h₃ h₄ h₅ =
-    simp (
-      ne-eqb k (kindNumber number) h₁,
-      ne-eqb k (kindNumber truth) h₂,
-      ne-eqb k (kindNumber narrow) h₃,
-      ne-eqb k (kindNumber text) h₄,
-      ne-eqb k (kindNumber binary) h₅,
-    )
-
-pub ruleset elements = (element-number, element-truth, element-narrow, element-text, element-binary, element-none)
+pub ruleset elements = (element-number, element-truth, element-narrow, element-text, element-binary)
 
 -- ---- a list
 

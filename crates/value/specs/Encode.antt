@@ -18,7 +18,7 @@ use Rattle.whole.specs.Number.{numberOf, encodeNumber}
 use Rattle.whole.specs.Laws.{number-back, number-sound, number-small, number-wide}
 use Rattle.text.specs.Narrow.{encodeNarrow, NoZero, narrow-back, narrow-sound}
 use Rattle.text.specs.Text.{encodeText, Chars, text-back, text-sound}
-use Rattle.value.specs.Types.{Kind, nothing, number, truth, narrow, text, binary}
+use Rattle.value.specs.Types.{Kind, number, truth, narrow, text, binary}
 use Rattle.value.specs.Value.{numericOf, truthOf, binaryOf, elementOf, listFrom, listOf}
 use Rattle.value.specs.Within.{from-number}
 
@@ -138,7 +138,6 @@ binary-written xs o n v w p h i z =
 
 pub item-sound : (k : Kind) (xs : List ℕ) → Octets xs → (w : ℕ) → elementOf k xs ≡ Ends w → Written k xs w
 unfolding elementOf numericOf truthOf binaryOf
-item-sound nothing xs o w e = no-end e
 item-sound number xs o w e =
     from-number (numberOf xs) _ w e
     (λ n v p q. let z : v ≡ w = cc in record {

@@ -10,12 +10,14 @@ use Rattle.octets.specs.Octets.{Octets}
 use Rattle.answers.specs.declared.Walk.{Walk}
 use Rattle.answers.specs.declared.Walk.the-variants.{Ends}
 use Rattle.answers.specs.Walk.{broken, no-end}
-use Rattle.whole.specs.Number.{numberOf}
-use Rattle.text.specs.Narrow.{narrowFrom}
+use Rattle.whole.specs.Number.{numberOf as wholeOf}
+use Rattle.text.specs.Narrow.{narrowFrom, encodeNarrow, NoZero}
 use Rattle.text.specs.Utf8.{textFrom}
-use Rattle.value.specs.Types.{Kind, nothing, number, truth, narrow, text, binary, Form, one, many, unknown}
+use Rattle.value.specs.Types.{Kind, number, truth, narrow, text, binary, kindNumber, Form, one, many, unknown}
+use Rattle.value.specs.Types.{formIn, numberOf, formAt, formOf}
 use Rattle.value.specs.Value.{numericOf, truthOf, binaryOf, elementOf, listOf, valueOf}
-use Rattle.value.specs.Encode.{Item, kindOf, Valid, Valids, encodeItem, encodeList, count, item-back, list-back, item-sound, list-sound}
+use Rattle.value.specs.Encode.{Item, aNumber, aTruth, aNarrow, aText, aBinary, kindOf, Valid, Valids, encodeItem}
+use Rattle.value.specs.Encode.{encodeList, count, item-back, list-back, item-sound, list-sound}
 
 pub record One (k : Kind) (v : List ℕ) : Type 0 where
   pub item : Item
@@ -72,8 +74,7 @@ value-one f v w r s h i e =
     (sym z ∙ ap (take (length v)) e ∙ take-at w s (length v) l, sym y ∙ ap (drop (length v)) e ∙ drop-at w s (length v) l)
 
 no-value : (f : Form) → valueOf f [] ≡ broken
-unfolding valueOf elementOf numericOf truthOf binaryOf listOf numberOf narrowFrom textFrom
-no-value (one nothing) = refl
+unfolding valueOf elementOf numericOf truthOf binaryOf listOf wholeOf narrowFrom textFrom
 no-value (one number) = refl
 no-value (one truth) = refl
 no-value (one narrow) = refl
@@ -86,3 +87,32 @@ no-value unknown = refl
 pub value-some : (f : Form) (v : List ℕ) → IsValue f v → 1 ≤ length v
 value-some f [] h = no-end (sym (no-value f) ∙ value-back f [] h [])
 value-some f (x ∷ v) h = omega arith
+
+-- ---- type 000D, a reference to another entry (2.9.6.3)
+
+-- it has the form of 001E
+pub object-narrow : formOf 0x000D ≡ formOf 0x001E
+unfolding formIn numberOf formAt formOf
+object-narrow = refl
+
+-- its values are one or more octets other than 00, and a 00
+pub object-value : (t : List ℕ) → NoZero t → 1 ≤ length t → IsValue (formOf 0x000D) (encodeNarrow t)
+unfolding formIn numberOf formAt formOf IsValue
+object-value t h i = record { item = aNarrow t; kind = refl; valid = (h, i); form = refl }
+
+pub record Reference (v : List ℕ) : Type 0 where
+  pub octets : List ℕ
+  pub noZero : NoZero octets
+  pub some : 1 ≤ length octets
+  pub reads : v ≡ encodeNarrow octets
+
+pub object-only : (v : List ℕ) → IsValue (formOf 0x000D) v → Reference v
+unfolding formIn numberOf formAt formOf IsValue
+object-only v h = go (h .item) (h .kind) (h .valid) (h .form)
+  where
+    go : (i : Item) → kindOf i ≡ narrow → Valid i → v ≡ encodeItem i → Reference v
+    go (aNarrow t) e g q = record { octets = t; noZero = g .0; some = g .1; reads = q }
+    go (aNumber n) e g q = let z : _≡_ {A = ℕ} 0 2 = ap kindNumber e in absurd (omega arith)
+    go (aTruth b) e g q = let z : _≡_ {A = ℕ} 1 2 = ap kindNumber e in absurd (omega arith)
+    go (aText t) e g q = let z : _≡_ {A = ℕ} 3 2 = ap kindNumber e in absurd (omega arith)
+    go (aBinary t) e g q = let z : _≡_ {A = ℕ} 4 2 = ap kindNumber e in absurd (omega arith)

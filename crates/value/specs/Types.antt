@@ -6,29 +6,28 @@ use lib.Dec.{eqb, ltb}
 
 -- what a value, or a list's element, is
 pub data Kind : Type 0 where
-  nothing number truth narrow text binary : Kind
+  number truth narrow text binary : Kind
 
 -- the form of a type's values
 pub data Form : Type 0 where
   one many : Kind → Form
   unknown : Form
 
--- kinds and forms as the code's arrays hold them
+-- kinds and forms as the code's arrays hold them: the kinds, the lists of each, and a number apart
 abbrev pub kindNumber : Kind → ℕ
-kindNumber nothing = 0
-kindNumber number = 1
-kindNumber truth = 2
-kindNumber narrow = 3
-kindNumber text = 4
-kindNumber binary = 5
+kindNumber number = 0
+kindNumber truth = 1
+kindNumber narrow = 2
+kindNumber text = 3
+kindNumber binary = 4
 
--- a list's form is as much more than its elements' kind
+-- a list's form is as much more than its elements' kind; below are the kinds
 abbrev pub listForm : ℕ
-listForm = 8
+listForm = 5
 
 -- every form of a type is below
 abbrev pub formsEnd : ℕ
-formsEnd = 16
+formsEnd = 10
 
 abbrev pub unknownForm : ℕ
 unknownForm = 255
@@ -44,8 +43,7 @@ kindAt n =
     (cond (eqb n (kindNumber truth)) truth
     (cond (eqb n (kindNumber narrow)) narrow
     (cond (eqb n (kindNumber text)) text
-    (cond (eqb n (kindNumber binary)) binary
-    nothing))))
+    binary)))
 
 unfoldable pub formAt : ℕ → Form
 formAt n = cond (ltb n listForm) (one (kindAt n)) (cond (ltb n formsEnd) (many (kindAt (n - listForm))) unknown)
@@ -61,7 +59,7 @@ abbrev pub types : List Row
 types =
     row 0x0003 (one number)
     ∷ row 0x000B (one truth)
-    ∷ row 0x000D (one nothing)
+    ∷ row 0x000D (one narrow)
     ∷ row 0x001E (one narrow)
     ∷ row 0x001F (one text)
     ∷ row 0x0102 (one binary)

@@ -13,7 +13,7 @@ use Rattle.whole.specs.declared.Number.the-variants.{Is, Broken as NoNumber}
 use Rattle.whole.specs.Number.{numberOf}
 use Rattle.text.specs.Narrow.{narrowOf}
 use Rattle.text.specs.Utf8.{textOf}
-use Rattle.value.specs.Types.{Kind, nothing, number, truth, narrow, text, binary, Form, one, many, unknown}
+use Rattle.value.specs.Types.{Kind, number, truth, narrow, text, binary, Form, one, many, unknown}
 
 -- what follows a whole number that is read, its value and its width in hand
 abbrev pub counted : Number → (ℕ → ℕ → Walk) → Walk
@@ -33,7 +33,6 @@ unfoldable pub binaryOf : List ℕ → Walk
 binaryOf xs = counted (numberOf xs) (λ n w. cond (ltb n 1) broken (cond (leb n (length xs - w)) (Ends (w + n)) broken))
 
 unfoldable pub elementOf : Kind → List ℕ → Walk
-elementOf nothing xs = broken
 elementOf number xs = numericOf xs
 elementOf truth xs = truthOf xs
 elementOf narrow xs = narrowOf xs

@@ -17,7 +17,7 @@ use Rattle.whole.specs.Number.{numberOf}
 use Rattle.whole.specs.Laws.{number-within}
 use Rattle.text.specs.Narrow.{narrow-within, narrow-breaks}
 use Rattle.text.specs.Text.{text-within, text-breaks}
-use Rattle.value.specs.Types.{Kind, nothing, number, truth, narrow, text, binary, Form, one, many, unknown}
+use Rattle.value.specs.Types.{Kind, number, truth, narrow, text, binary, Form, one, many, unknown}
 use Rattle.value.specs.Value.{counted, numericOf, truthOf, binaryOf, elementOf, listFrom, listOf, valueOf}
 
 -- the number that a walk went on from
@@ -50,7 +50,6 @@ truth-within xs w e =
 
 pub element-within : (k : Kind) (xs : List ℕ) (w : ℕ) → elementOf k xs ≡ Ends w → w ≤ length xs
 unfolding elementOf
-element-within nothing xs w e = no-end e
 element-within number xs w e = numeric-within xs w e
 element-within truth xs w e = truth-within xs w e
 element-within narrow xs w e = narrow-within xs w e
@@ -88,7 +87,6 @@ break-counted NoNumber f h = refl
 
 element-breaks : (k : Kind) (xs : List ℕ) → breakOf (elementOf k xs) ≡ 0
 unfolding elementOf numericOf truthOf binaryOf
-element-breaks nothing xs = refl
 element-breaks number xs = break-counted (numberOf xs) _ (λ n w. refl)
 element-breaks truth xs = break-either (ltb (length xs) 1) _ _ refl (break-either (ltb (octetAt xs 0) 2) _ _ refl refl)
 element-breaks narrow xs = narrow-breaks xs

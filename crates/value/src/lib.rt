@@ -6,7 +6,6 @@ pub use types::BINARY;
 pub use types::FORMS;
 pub use types::LIST;
 pub use types::NARROW;
-pub use types::NOTHING;
 pub use types::NUMBER;
 pub use types::TEXT;
 pub use types::TRUTH;

@@ -1,29 +1,30 @@
-// A tag's low 16 bits are its type (2.9.2). The form of its values is a number: that of a kind, or LIST more for a list
-// of the kind.
+// A tag's low 16 bits are its type (2.9.2). The form of its values is a number: that of a kind, which is below LIST, or
+// LIST more for a list of the kind.
 ghost use mathlib.Core.Path.{_≡_};
 ghost use Prim.Native.Nat.{_%_};
 ghost use Rattle.value.specs.Types.{numberOf};
 
-pub const NOTHING: u8 = 0;
-
-pub const NUMBER: u8 = 1;
+pub const NUMBER: u8 = 0;
 
 // Yes or no.
-pub const TRUTH: u8 = 2;
+pub const TRUTH: u8 = 1;
 
-pub const NARROW: u8 = 3;
+pub const NARROW: u8 = 2;
 
-pub const TEXT: u8 = 4;
+pub const TEXT: u8 = 3;
 
-pub const BINARY: u8 = 5;
+pub const BINARY: u8 = 4;
 
-pub const LIST: u8 = 8;
+pub const LIST: u8 = 5;
 
 // Every form of a type is below.
-pub const FORMS: u8 = 16;
+pub const FORMS: u8 = 10;
 
 // The form where the type isn't among the ten.
 pub const UNKNOWN: u8 = 255;
+
+// 000D is a reference to another entry, stored as a narrow string (2.9.6.3).
+const REFERENCE: u8 = NARROW;
 
 const TYPES: [u16; 10] = [
     0x0003,
@@ -41,7 +42,7 @@ const TYPES: [u16; 10] = [
 const FORM_OF_TYPE: [u8; 10] = [
     NUMBER,
     TRUTH,
-    NOTHING,
+    REFERENCE,
     NARROW,
     TEXT,
     BINARY,

@@ -1,5 +1,4 @@
 // The walk over a value of each form.
-use crate::types::BINARY;
 use crate::types::FORMS;
 use crate::types::LIST;
 use crate::types::NARROW;
@@ -60,8 +59,7 @@ fn element(kind: u8, s: &[u8]) -> Walk
         TRUTH => truth(s),
         NARROW => text::narrow_string(s),
         TEXT => text::utf8_string(s),
-        BINARY => binary(s),
-        _ => Walk::Broken(0),
+        _ => binary(s),
     }
 }
 

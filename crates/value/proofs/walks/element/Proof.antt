@@ -40,9 +40,6 @@ returns-4 c = search elements
 returns-5 : tie.Need-returns-5
 returns-5 c = search elements
 
-returns-6 : tie.Need-returns-6
-returns-6 c = search elements
-
 pub element-spec : {M : Type 1} → statement M
 element-spec =
     tie.close
@@ -56,5 +53,4 @@ element-spec =
     returns-2
     returns-3
     returns-4
-    returns-5
-    returns-6)
+    returns-5)
