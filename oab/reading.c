@@ -182,7 +182,7 @@ int run_columns(const struct command *c)
 
 static void print_found(const struct command *c, uint64_t record, uint32_t tag, const uint8_t *s, size_t n, int fields)
 {
-    char front[64] = "", number[24] = "header";
+    char front[128] = "", number[24] = "header"; /* the longest name has 54 letters */
     const char *name = c->options & NAMES ? tag_name(tag) : NULL;
     if (record != WT_HEADER) snprintf(number, sizeof number, "%" PRIu64, record);
     if (c->options & JSON) {
