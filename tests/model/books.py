@@ -602,7 +602,7 @@ def decision_books():
     for point in (0xFEFF, 0xFFFE, 0xFFFF, 0xFDD0, 0x1FFFF, 0x10FFFF, 1, 0x7F, 0x85):
         yield book([], [text], [], [[chr(point).encode() + b'\0']]), None
     yield book([], [(0x3003001E, 0)], [], [[b'\x80\xFF\xC0\x01\0']]), None
-    # Request 102 (decision 9): a 000D value has the form of 001E, as a key too, which in the header table binds nothing.
+    # Request 102 (decision 9): a 000D value has the form of 001E, as a key too; in the header table a key is not due.
     yield octets_of(MANAGER_TABLE), None
     for flags in (0, 2):
         manager = (MANAGER, flags)

@@ -14,7 +14,8 @@ use Rattle.presence.specs.Presence.{setBit}
 use Rattle.whole.specs.Number.{encodeNumber}
 use Rattle.text.specs.Narrow.{narrowOf}
 use Rattle.text.specs.Utf8.{textOf}
-use Rattle.value.specs.Types.{Kind, number, truth, narrow, text, binary, Form, one, many, unknown, kindNumber, numberOf, formAt, formOf}
+use Rattle.value.specs.Types.{Kind, number, truth, narrow, text, binary, Form, one, many, unknown, kindNumber}
+use Rattle.value.specs.Types.{numberOf, formAt, formOf}
 use Rattle.table.specs.Found.{isFound, columnOf}
 use Rattle.writing.specs.declared.Writing.{Writing}
 use Rattle.writing.specs.declared.Outcome.{Outcome}

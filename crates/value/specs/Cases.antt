@@ -18,7 +18,7 @@ use Rattle.whole.specs.declared.Number.the-variants.{Is, Broken as NoNumber}
 use Rattle.whole.specs.Number.{numberOf as wholeOf}
 use Rattle.text.specs.Narrow.{narrowOf}
 use Rattle.text.specs.Utf8.{textOf}
-use Rattle.value.specs.Types.{Kind, number, truth, narrow, text, binary, kindNumber, listForm, formsEnd}
+use Rattle.value.specs.Types.{Kind, number, truth, narrow, text, kindNumber, listForm, formsEnd}
 use Rattle.value.specs.Types.{unknownForm, kindAt, formAt, Row, types, formIn, numberOf}
 use Rattle.value.specs.Value.{numericOf, truthOf, binaryOf, elementOf, listFrom, listOf, valueOf}
 use Rattle.value.specs.Within.{element-within}
