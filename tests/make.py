@@ -314,6 +314,16 @@ def ground_octets(add, rng):
         add(12, two(named) + two(2) + b'xy' + b'abc')
 
 
+def ground_counts(add, rng):
+    for octet in range(256):                   # every octet: whole, as the last of any number of columns, and behind them
+        add(6, two(8) + bytes([octet]))
+        add(6, two(8 + octet % 8) + bytes([octet, octet, 0xFF]))
+        add(6, two(1 + octet // 2) + bytes([octet] * 17))
+    for n in (129, 136, 200, 255, 256, 300):   # more columns than a table has, and more than the octets stand for
+        for length in (0, 1, n // 8, n // 8 + 1, 40):
+            add(6, two(n) + rng.randbytes(length))
+
+
 def make_ground():
     stream = Stream('ground_cases')
     rng = random.Random(101)
@@ -329,6 +339,7 @@ def make_ground():
     ground_values(add, rng)
     ground_text(add, rng)
     ground_octets(add, rng)
+    ground_counts(add, rng)
     stream.save(600_000, 1_000_000)
 
 

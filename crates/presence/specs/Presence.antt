@@ -4,7 +4,7 @@ use mathlib.Core.Bool.{Bool, true}
 use mathlib.Core.List.{List, [], _∷_, _++_}
 use Prim.Native.Nat.{ℕ, zero, suc, _+_, _-_, _*_, _/_, _%_, _^_, _<_, _≤_}
 use native.Mathlib.Nat.{zero-div, zero-mod, one-mul, div-eq-of-lt, mod-one, mod-eq-of-lt}
-use native.Mathlib.Numerals.{add-one, one-add}
+use native.Mathlib.Numerals.{one-add}
 use native.Mathlib.Decide.{decLt, ℕ-discrete}
 use native.Mathlib.Omega.{arith}
 use lib.Bits.{bitAnd, and-mask, and-high, bitOr, bitXor, or-shr, or-mod, or-zero-r, shifted-even}
@@ -224,21 +224,10 @@ pub clear-past : (xs : List ℕ) (i : ℕ) → length xs ≤ i / 8 → xs ≡ cl
 unfolding clearBit
 clear-past xs i h = sym (set-out xs (i / 8) (bitXor (octetAt xs (i / 8)) (bitAt xs i * 2 ^ (7 - i % 8))) h)
 
-pub bit-and : (x y : ℕ) → bitAnd (x / 2 ^ y) 1 < 2
-bit-and x y = rw (and-mask (x / 2 ^ y) 1) (omega arith)
-
-pub ones-step : (xs : List ℕ) (i k b : ℕ) → k ≡ onesIn xs i → b ≡ bitAt xs i → k + b ≡ onesIn xs (i + 1)
-ones-step xs i k b e f = rw (add-one, e, f)
-
-pub ones-end : (xs : List ℕ) (n i k : ℕ) → k ≡ onesIn xs i → i ≤ n → n ≤ i → k ≡ onesIn xs n
-ones-end xs n i k e h l =
-    let z : n ≡ i = omega arith in
-    rw z e
-
 pub room-even : (n : ℕ) → n % 8 ≡ 0 → n / 8 ≡ room n
 room-even n h = omega arith
 
 pub room-odd : (n : ℕ) → (n % 8 ≡ 0 → ⊥) → n / 8 + 1 ≡ room n
 room-odd n h = omega arith
 
-pub ruleset presence = (bit-in, bit-out, bit-and, set-in, set-past, clear-in, clear-past, spare-none, spare-mask, spare-out, ones-step, ones-end, room-even, room-odd)
+pub ruleset presence = (bit-in, bit-out, set-in, set-past, clear-in, clear-past, spare-none, spare-mask, spare-out, room-even, room-odd)

@@ -1,6 +1,8 @@
-// Presence bits (2.9.5): column i is the bit 80 >> (i mod 8) of the octet i / 8, so column 0 is the top bit of the first octet.
+// Presence bits (2.9.5): column i is the bit 80 >> (i mod 8) of the octet i / 8, so column 0 is the top bit of the first
+// octet.
+use octets::octet;
 ghost use mathlib.Core.Path.{_≡_};
-ghost use Prim.Native.Nat.{_≤_, _<_};
+ghost use Prim.Native.Nat.{_≤_};
 ghost use Rattle.presence.specs.Presence.{room, bitAt, isSet, setBit, clearBit, spareClear, onesIn};
 
 // The presence octets of `n` columns.
@@ -12,7 +14,7 @@ pub fn octets_for(n: usize) -> usize
 
 // Column i as 0 or 1; 0 past the end.
 fn bit(s: &[u8], i: usize) -> u8
-    ensures { λ r. ⌜ (r ≡ bitAt (now (s .entry)) i) × (r < 2) ⌝ }
+    ensures { λ r. ⌜ r ≡ bitAt (now (s .entry)) i ⌝ }
 {
     let at = i / 8;
     if at < s.len() {
@@ -65,15 +67,17 @@ pub fn spare_clear(s: &[u8], n: usize) -> bool
     }
 }
 
-// How many of the first n columns have a value.
+// How many of the first n columns have a value: the ones of the whole octets, and of the last without what is behind.
 pub fn count(s: &[u8], n: usize) -> usize
     ensures { λ r. ⌜ (r ≡ onesIn (now (s .entry)) n) × (r ≤ n) ⌝ }
 {
+    let whole = n / 8;
     let mut k = 0;
-    let mut i = 0;
-    while i < n {
-        k += bit(s, i) as usize;
-        i += 1;
+    let mut at = 0;
+    while at < whole {
+        k += u8::count_ones(octet(s, at) as u8) as usize;
+        at += 1;
     }
-    k
+    let last = octet(s, whole) as u8 & !(0xff >> n % 8);
+    k + u8::count_ones(last) as usize
 }
