@@ -1,4 +1,4 @@
-/* A plain listing in C, written for the comparison: the book judged by the plain reader, then a line for each record. */
+/* A plain listing in C, written for the comparison: judged by the plain reader, then a line for each record. */
 #include "../plain.h"
 #include <stdio.h>
 #include <string.h>

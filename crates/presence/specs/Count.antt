@@ -1,26 +1,31 @@
--- Values counted by whole octets (02, #104): an octet's count of ones is the sum of its eight bits, and of the last octet only
--- the bits of columns count. Assumes nothing.
+-- Values counted by whole octets (02, #104): an octet's count of ones is the sum of its eight bits, and of the last
+-- octet only the bits of columns count. Assumes nothing.
 use mathlib.Core.Path.{_≡_, refl, sym, ap, _∙_}
-use mir.Facts.{fits-le}
-use mathlib.Core.List.{List, [], _∷_}
+use mathlib.Core.List.{List}
 use Prim.Native.Nat.{ℕ, zero, suc, _+_, _-_, _*_, _/_, _%_, _^_, _<_, _≤_}
-use native.Mathlib.Nat.{zero-add, add-zero, add-suc, add-assoc, add-comm, div-eq-of-lt, div-one}
+use native.Mathlib.Nat.{add-zero, add-suc, add-assoc, add-comm, div-eq-of-lt, div-one}
 use native.Mathlib.Numerals.{add-one}
 use native.Mathlib.Omega.{arith}
 use lib.Bits.{bitAnd, and-high, and-le-l}
 use lib.Count.{ones, ones-step, ones-cat, ones-le}
 use lib.Pow.{shr-shr, shr-mod, pow-pos}
+use mir.Facts.{fits-le}
 use Rattle.octets.specs.Octets.{octetAt, Octets}
 use Rattle.presence.specs.Presence.{bitOf, bitAt, onesIn, bit-lt, low}
+
+-- the sum of an octet's m highest bits
+abbrev pub highest : ℕ → ℕ → ℕ
+highest x zero = 0
+highest x (suc m) = highest x m + bitOf x (7 - m)
+
+-- an octet of whose bits all but the m highest are taken for 0
+abbrev pub masked : ℕ → ℕ → ℕ
+masked x m = x / 2 ^ (8 - m) * 2 ^ (8 - m)
 
 -- the ones of the first j octets
 abbrev pub wholeOnes : List ℕ → ℕ → ℕ
 wholeOnes xs zero = 0
 wholeOnes xs (suc j) = wholeOnes xs j + ones (octetAt xs j)
-
--- an octet of whose bits all but the m highest are taken for 0
-abbrev pub masked : ℕ → ℕ → ℕ
-masked x m = x / 2 ^ (8 - m) * 2 ^ (8 - m)
 
 -- ---- one octet
 
@@ -33,27 +38,22 @@ ones-more : (x k : ℕ) → ones (x / 2 ^ k) ≡ ones (x / 2 ^ (k + 1)) + bitOf 
 unfolding bitOf
 ones-more x k = ones-step (x / 2 ^ k) ∙ ap (λ (y : ℕ). x / 2 ^ k % 2 + ones y) (shr-shr x k 1) ∙ add-comm _ _
 
--- the first m columns behind j octets are the m highest bits of the next
-ones-behind : (xs : List ℕ) (j m : ℕ) → octetAt xs j < 256 → m ≤ 8
-    → onesIn xs (j * 8 + m) ≡ onesIn xs (j * 8) + ones (octetAt xs j / 2 ^ (8 - m))
-unfolding bitAt
-ones-behind xs j zero o h = rw (div-eq-of-lt o, no-ones, add-zero (j * 8), add-zero (onesIn xs (j * 8)))
-ones-behind xs j (suc m) o h =
-    let a : (j * 8 + m) / 8 ≡ j = omega arith in
-    let b : 7 - (j * 8 + m) % 8 ≡ 8 - suc m = omega arith in
-    let e : 8 - m ≡ 8 - suc m + 1 = omega arith in
-    rw (add-suc, ones-behind xs j m o (omega arith), a, b, e, ones-more (octetAt xs j) (8 - suc m), add-assoc)
+highest-ones : (x m : ℕ) → x < 256 → m ≤ 8 → ones (x / 2 ^ (8 - m)) ≡ highest x m
+highest-ones x zero h l = rw (div-eq-of-lt h) no-ones
+highest-ones x (suc m) h l =
+    let e : 8 - suc m + 1 ≡ 8 - m = omega arith in
+    let b : 8 - suc m ≡ 7 - m = omega arith in
+    rw (ones-more x (8 - suc m), e, highest-ones x m h (omega arith), b)
 
 -- an octet's count of ones is the sum of its eight bits
-pub octet-ones : (x : ℕ) → x < 256
-    → ones x ≡ bitOf x 7 + bitOf x 6 + bitOf x 5 + bitOf x 4 + bitOf x 3 + bitOf x 2 + bitOf x 1 + bitOf x 0
-unfolding bitAt
-octet-ones x h = rw (div-one x, zero-add (ones x), zero-add (bitOf x 7)) at (sym (ones-behind (x ∷ []) 0 8 h (omega arith)))
+pub octet-ones : (x : ℕ) → x < 256 → ones x ≡ highest x 8
+octet-ones x h = rw (div-one x) at (highest-ones x 8 h (omega arith))
 
-masked-ones : (x m : ℕ) → ones (masked x m) ≡ ones (x / 2 ^ (8 - m))
-masked-ones x m =
+pub masked-ones : (x m : ℕ) → x < 256 → m ≤ 8 → ones (masked x m) ≡ highest x m
+masked-ones x m h l =
     let y : ℕ = x / 2 ^ (8 - m) in
-    rw (add-zero (y * 2 ^ (8 - m)), no-ones, add-zero (ones y)) at (ones-cat (8 - m) y 0 (pow-pos (8 - m)))
+    let c : ones (y * 2 ^ (8 - m) + 0) ≡ ones y + ones 0 = ones-cat (8 - m) y 0 (pow-pos (8 - m)) in
+    rw (add-zero (y * 2 ^ (8 - m)), no-ones, add-zero (ones y)) at c ∙ highest-ones x m h l
 
 -- the mask that the code makes
 mask-is : (x m : ℕ) → x < 256 → m < 8 → bitAnd x (255 - 255 / 2 ^ m) ≡ masked x m
@@ -63,21 +63,32 @@ mask-is x m h l =
     let e : 255 - 255 / 2 ^ m ≡ 2 ^ (m + (8 - m)) - 2 ^ (8 - m) = rw (low m l, n) (omega arith) in
     rw (e, and-high x m (8 - m), shr-mod {n = x} m (8 - m) (rw n h))
 
+-- ---- the columns of an octet
+
+-- the first m columns behind j octets are the m highest bits of the next
+ones-behind : (xs : List ℕ) (j m : ℕ) → m ≤ 8 → onesIn xs (j * 8 + m) ≡ onesIn xs (j * 8) + highest (octetAt xs j) m
+unfolding bitAt
+ones-behind xs j zero h = rw (add-zero (j * 8), add-zero (onesIn xs (j * 8)))
+ones-behind xs j (suc m) h =
+    let a : (j * 8 + m) / 8 ≡ j = omega arith in
+    let b : 7 - (j * 8 + m) % 8 ≡ 7 - m = omega arith in
+    rw (add-suc, ones-behind xs j m (omega arith), a, b, add-assoc)
+
 -- ---- the code's own terms, for search
 
 pub count-whole : (xs : List ℕ) (j k x : ℕ) → k ≡ onesIn xs (j * 8) → x ≡ octetAt xs j → x < 256
     → k + ones x ≡ onesIn xs ((j + 1) * 8)
 count-whole xs j k x e f h =
     let n : (j + 1) * 8 ≡ j * 8 + 8 = omega arith in
-    rw (n, ones-behind xs j 8 (rw (sym f) h) (omega arith), div-one, e, f)
+    rw (n, ones-behind xs j 8 (omega arith), octet-ones x h, e, f)
 
 pub count-last : (xs : List ℕ) (n j k x : ℕ) → k ≡ onesIn xs (j * 8) → j ≤ n / 8 → n / 8 ≤ j
     → x ≡ octetAt xs (n / 8) → x < 256 → k + ones (bitAnd x (255 - 255 / 2 ^ (n % 8))) ≡ onesIn xs n
 count-last xs n j k x e l u f h =
     let i : j ≡ n / 8 = omega arith in
     let m : n / 8 * 8 + n % 8 ≡ n = omega arith in
-    let o = ones-behind xs (n / 8) (n % 8) (rw (sym f) h) (omega arith) in
-    rw (mask-is x (n % 8) h (omega arith), masked-ones x (n % 8), e, i, f) (sym (rw m at o))
+    let o = ones-behind xs (n / 8) (n % 8) (omega arith) in
+    rw (mask-is x (n % 8) h (omega arith), masked-ones x (n % 8) h (omega arith), e, i, f) (sym (rw m at o))
 
 -- of n columns at most n have a value, so the sums fit
 pub ones-most : (xs : List ℕ) (n : ℕ) → onesIn xs n ≤ n

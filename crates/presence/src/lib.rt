@@ -1,5 +1,5 @@
-// Presence bits (2.9.5): column i is the bit 80 >> (i mod 8) of the octet i / 8, so column 0 is the top bit of the first
-// octet.
+// Presence bits (2.9.5): column i is the bit 80 >> (i mod 8) of the octet i / 8, so column 0 is the top bit of the
+// first octet.
 use octets::octet;
 ghost use mathlib.Core.Path.{_≡_};
 ghost use Prim.Native.Nat.{_≤_};
@@ -67,7 +67,7 @@ pub fn spare_clear(s: &[u8], n: usize) -> bool
     }
 }
 
-// How many of the first n columns have a value: the ones of the whole octets, and of the last without what is behind.
+// How many of the first n columns have a value: the ones of the whole octets, and of the last one's n % 8 highest bits.
 pub fn count(s: &[u8], n: usize) -> usize
     ensures { λ r. ⌜ (r ≡ onesIn (now (s .entry)) n) × (r ≤ n) ⌝ }
 {
