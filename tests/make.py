@@ -315,7 +315,7 @@ def ground_octets(add, rng):
 
 
 def ground_counts(add, rng):
-    for octet in range(256):                   # every octet: whole, as the last of any number of columns, and behind them
+    for octet in range(256):                   # every octet: whole, as the last of any columns, and behind them
         add(6, two(8) + bytes([octet]))
         add(6, two(8 + octet % 8) + bytes([octet, octet, 0xFF]))
         add(6, two(1 + octet // 2) + bytes([octet] * 17))

@@ -230,4 +230,5 @@ room-even n h = omega arith
 pub room-odd : (n : ℕ) → (n % 8 ≡ 0 → ⊥) → n / 8 + 1 ≡ room n
 room-odd n h = omega arith
 
-pub ruleset presence = (bit-in, bit-out, set-in, set-past, clear-in, clear-past, spare-none, spare-mask, spare-out, room-even, room-odd)
+pub ruleset presence =
+    (bit-in, bit-out, set-in, set-past, clear-in, clear-past, spare-none, spare-mask, spare-out, room-even, room-odd)
