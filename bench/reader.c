@@ -135,6 +135,15 @@ size_t value(uint8_t form, const uint8_t *s, size_t n) {
     return i;
 }
 
+/* where a value that breaks is at fault: a list with a count at its first element that breaks */
+static size_t fault(uint8_t form, const uint8_t *s, size_t n) {
+    uint32_t count;
+    size_t i = form < 8 ? 0 : read_number(s, n, &count);
+    if (i == 0 || count == 0) return 0;
+    for (size_t w; (w = element(form - 8, s + i, n - i)) != 0;) i += w;
+    return i;
+}
+
 /* ---- tables */
 
 uint8_t form_of(uint32_t tag) {
@@ -223,7 +232,7 @@ struct refusal judge_record(const uint8_t *book, size_t n, size_t at, const stru
     for (size_t j = 0; j < t->count; j++) {
         if (!present(p, j)) continue;
         size_t w = value(t->forms[j], book + i, end - i);
-        if (w == 0) return refuse(11, i);
+        if (w == 0) return refuse(11, i + fault(t->forms[j], book + i, end - i));
         i += w;
     }
     return i < end ? refuse(12, i) : none;

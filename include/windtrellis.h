@@ -35,7 +35,7 @@ extern "C" {
 
 /* 10,000 for each version, 100 for each change that adds calls, 1 for each other one. wt_version answers that of the
  * library which the program runs with. */
-#define WT_VERSION 10001u
+#define WT_VERSION 10002u
 uint32_t wt_version(void);
 
 /* Answers. */
@@ -51,7 +51,8 @@ enum {
     WT_WRONG_SIZE = 8,     /* a record's size is too small, or passes the book's end */
     WT_SPARE_BIT = 9,      /* a spare presence bit is 1 */
     WT_KEY_ABSENT = 10,    /* a key column has no value */
-    WT_BROKEN_VALUE = 11,  /* a value breaks its form, or passes its record's end */
+    WT_BROKEN_VALUE = 11,  /* a value breaks its form, or passes its record's end; in a list the place is that of the
+                            * element at fault, or of the count if that is wrong, else that of the value */
     WT_OCTETS_LEFT = 12,   /* octets are left in a record */
     WT_WRONG_COUNT = 13,   /* the count is 0 or over 65,535, or not that of the records */
     WT_WRONG_SERIAL = 14,  /* the serial differs */

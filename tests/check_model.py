@@ -6,6 +6,7 @@ of document 000, document 01's own cases, other programs for serial and UTF-8, a
 put into books on purpose, whose refusals are known before anything is judged.
 """
 
+import itertools
 import random
 import sys
 import zlib
@@ -134,7 +135,7 @@ def check_refusals():
         book = books.octets_of(table)
         for length in range(0, len(book), 3):
             assert oab.judge(book[:length]) == ('refused',) + books.cut_refusal(table, length)
-    for book, expected in books.decision_books():
+    for book, expected in itertools.chain(books.decision_books(), books.proxy_books()):
         verdict = oab.judge(book)
         assert verdict[0] == 'good' if expected is None else verdict == ('refused',) + expected
     assert oab.judge(bytes(oab.LIMIT + 1)) == ('refused', 1, 0)

@@ -11,6 +11,7 @@ upper-case, two digits an octet. Every line ends in LF. All randomness has fixed
 two runs give the same files.
 """
 
+import itertools
 import random
 import sys
 from collections import Counter
@@ -70,7 +71,7 @@ def ground_line(payload):
 
     1 whole number read: part                   "number VALUE WIDTH" or "broken"
     2 whole number written: 4 n                 hex
-    3 value: 2 type, part                       "ends WIDTH", "broken 0" or "unknown"
+    3 value: 2 type, part                       "ends WIDTH", "broken PLACE" or "unknown"
     4 serial: octets                            decimal
     5 presence octets: 2 n                      how many n columns take
     6 presence: 2 n, octets                     "BITS clear|spare ONES"
@@ -95,7 +96,7 @@ def ground_line(payload):
         if type_code not in oab.TYPES:
             return 'unknown'
         end = oab.walk(type_code, part)
-        return 'broken 0' if end is None else f'ends {end}'
+        return f'broken {oab.fault(type_code, part)}' if end is None else f'ends {end}'
     if what == 4:
         return str(oab.serial(rest))
     if what == 5:
@@ -393,7 +394,7 @@ def judged_books():
     for tail in (b'\0', b'\x04\0\0\0', small):
         yield small + tail
         yield books.mended(small + tail)
-    for book, expected in books.decision_books():
+    for book, expected in itertools.chain(books.decision_books(), books.proxy_books()):
         assert oab.judge(book)[:3] == ('refused',) + expected if expected else oab.judge(book)[0] == 'good', (book, expected)
         yield book
     # Every number of columns from 0 to 18 in either table.
@@ -534,6 +535,10 @@ def make_lookup():
             tags = [tag for tag, _ in table[0] + table[1]] + [0]
             for record in (HEADER_RECORD, 0, 7):
                 ask(book, record, rng.choice(tags))
+    for book, _ in list(books.proxy_books())[::7]:                         # request 109: the element at fault
+        new(book)
+        for record in (HEADER_RECORD, 0, 1):
+            ask(book, record, oab.word(book, 24))
     small = books.small_book()
     for book in rng.sample(list(books.octet_changes(small, rng, 3)), 60) + rng.sample(books.truncations(small), 20):
         new(book)
@@ -1172,6 +1177,21 @@ def correcting_managers(stream):
         assert answer == (('done', len(book) + more) if room == more else ('refused', 17, 0))
 
 
+def correcting_proxies(stream):
+    """Request 109: a list at fault that is offered is 18 at 0, wherever its fault is; one in the book is 11 at it."""
+    for type_code in books.ELEMENTS:
+        tag, whole = 0x800F << 16 | type_code, books.whole_list(type_code)
+        stream.new(books.octets_of(([(tag, 0)], [(tag, 0)], [whole], [[whole], [None]])), 40)
+        for value, inside in books.faulty_lists(type_code):
+            for record in (HEADER_RECORD, 1):
+                assert stream.call(set_call(record, tag, value)) == ('refused', 18, 0)
+            assert stream.call(insert_call(1, books.RecordDraft([value]).octets())) == ('refused', 18, 0)
+        for value, inside in list(books.faulty_lists(type_code))[::3]:
+            stream.new(books.octets_of(([], [(tag, 0)], [], [[whole], [value]])), 40)
+            for call in (set_call(0, tag, whole), clear_call(1, tag), insert_call(0, b''), delete_call(1)):
+                assert stream.call(call) == ('refused', 11, 41 + len(whole) + 5 + inside)
+
+
 def probe(buffer, length, payload):
     """The answer to a correction on a buffer of its own."""
     stream = CorrectingStream()
@@ -1236,6 +1256,7 @@ def make_correcting():
     rng = random.Random(505)
     correcting_small(stream)
     correcting_managers(stream)
+    correcting_proxies(stream)
     correcting_chains(stream, rng)
     correcting_rooms(stream, rng)
     correcting_damaged(stream, rng)

@@ -156,10 +156,7 @@ BAD_TEXTS = (b'\x80', b'\xBF', b'\xC0\x80', b'\xC1\xBF', b'\xC2', b'\xC2\x41', b
              b'\xFE', b'\xFF')
 
 
-def broken_value(rng, type_code):
-    """Octets that break the form of the type at the front, whatever follows them."""
-    if type_code not in oab.TYPES:             # an earlier fault spoilt the type
-        return b'\0'
+def broken_single(rng, type_code):
     if type_code == oab.NUMBER:
         return rng.choice(BAD_NUMBERS)
     if type_code == oab.YES_OR_NO:
@@ -171,29 +168,48 @@ def broken_value(rng, type_code):
             return b'\0'
         around = (b'', b'a', some_text(rng, 3))
         return rng.choice(around) + rng.choice(BAD_TEXTS) + rng.choice((b'', b'z')) + b'\0'
-    if type_code == oab.BINARY:
-        return rng.choice(BAD_NUMBERS + (b'\0',))
-    if rng.random() < 0.3:
-        return rng.choice(BAD_NUMBERS + (b'\0',))
+    return rng.choice(BAD_NUMBERS + (b'\0',))  # 0102
+
+
+def broken_at(rng, type_code):
+    """Octets that break the form of the type at the front, whatever follows them, and where they are at fault."""
+    if type_code not in oab.TYPES:             # an earlier fault spoilt the type
+        return b'\0', 0
+    if type_code not in oab.ELEMENT:
+        return broken_single(rng, type_code), 0
+    if rng.random() < 0.3:                     # the count is wrong
+        return rng.choice(BAD_NUMBERS + (b'\0',)), 0
     element = oab.ELEMENT[type_code]
     count = rng.randint(1, 4)
-    bad = rng.randrange(count)
-    good = b''.join(some_value(rng, element, 3) for _ in range(bad))
-    return oab.encode_number(count) + good + broken_value(rng, element)
+    good = b''.join(some_value(rng, element, 3) for _ in range(rng.randrange(count)))
+    front = oab.encode_number(count) + good
+    return front + broken_single(rng, element), len(front)
+
+
+def broken_value(rng, type_code):
+    return broken_at(rng, type_code)[0]
+
+
+def cut_at(rng, type_code):
+    """Octets with which a record ends too soon: the value passes its end; and where it is at fault."""
+    if type_code == oab.YES_OR_NO or type_code not in oab.TYPES:
+        return b'', 0
+    if type_code in oab.STRINGS:
+        return rng.choice((b'', b'a', b'abc')), 0
+    if type_code == oab.NUMBER:
+        return rng.choice((b'', b'\x81', b'\x82\x05', b'\x83\x01\x01', b'\x84\x01\x01\x01')), 0
+    if type_code == oab.BINARY:
+        return rng.choice((b'', b'\x01', b'\x05abcd', b'\x81\x80abc', b'\x84\xFF\xFF\xFF\xFFa')), 0
+    elements = [some_value(rng, oab.ELEMENT[type_code], 3) for _ in range(rng.choice((1, 1, 2, 3)))]
+    parts = [oab.encode_number(len(elements))] + elements
+    whole = b''.join(parts)
+    end = rng.randrange(len(whole))
+    starts = [sum(len(part) for part in parts[:i]) for i in range(len(parts))]
+    return whole[:end], max(start for start in starts if start <= end)
 
 
 def cut_value(rng, type_code):
-    """Octets with which a record ends too soon: the value passes its end."""
-    if type_code == oab.YES_OR_NO or type_code not in oab.TYPES:
-        return b''
-    if type_code in oab.STRINGS:
-        return rng.choice((b'', b'a', b'abc'))
-    if type_code == oab.NUMBER:
-        return rng.choice((b'', b'\x81', b'\x82\x05', b'\x83\x01\x01', b'\x84\x01\x01\x01'))
-    if type_code == oab.BINARY:
-        return rng.choice((b'', b'\x01', b'\x05abcd', b'\x81\x80abc', b'\x84\xFF\xFF\xFF\xFFa'))
-    whole = some_value(rng, type_code, 3)
-    return whole[:rng.randrange(len(whole))]
+    return cut_at(rng, type_code)[0]
 
 
 # ---------------------------------------------------------------- random tables
@@ -430,8 +446,8 @@ def fault_value(draft, rng):
     position = rng.randrange(len(parts.values))
     column = parts.values[position][0]
     tag = draft.columns[0 if record == 0 else 1][column][0]
-    parts.values[position][1] = broken_value(rng, oab.type_of(tag))
-    return lambda: (11, draft.value_place(record, position))
+    parts.values[position][1], inside = broken_at(rng, oab.type_of(tag))
+    return lambda: (11, draft.value_place(record, position) + inside)
 
 
 def fault_value_cut(draft, rng):
@@ -442,8 +458,8 @@ def fault_value_cut(draft, rng):
         return None
     column = parts.values[-1][0]
     tag = draft.columns[0 if record == 0 else 1][column][0]
-    parts.values[-1][1] = cut_value(rng, oab.type_of(tag))
-    return lambda: (11, draft.value_place(record, len(parts.values) - 1))
+    parts.values[-1][1], inside = cut_at(rng, oab.type_of(tag))
+    return lambda: (11, draft.value_place(record, len(parts.values) - 1) + inside)
 
 
 def fault_left(draft, rng):
@@ -644,3 +660,59 @@ def decision_books():
     yield spoilt.build(), (14, 4)
     spoilt.tail = b'\0'
     yield spoilt.build(), (13, 53)
+
+
+# ---------------------------------------------------------------- request 109
+
+# For each list type good elements of unlike lengths, and octets that are no element whatever follows them.
+ELEMENTS = {
+    0x1003: ((b'\x05', b'\x81\x80', b'\x83\0\0\x01'), (b'\x80', b'\x81\x7F', b'\x82\x80\0', b'\x85\x01')),
+    0x101E: ((b'a\0', b'\xFFbc\0', b'd@e\0'), (b'\0',)),
+    0x101F: ((b'a\0', 'ü@b\0'.encode(), b'SMTP:c@d\0'), (b'\0', b'\xC3\0', b'ab\xFF\0', b'\xED\xA0\x80\0')),
+    0x1102: ((b'\x01\0', b'\x03abc', b'\x02\xFF\0'), (b'\0', b'\x80', b'\x81\x01a')),
+}
+# An element that lacks its end. The octets behind a record, the next one's size, would end all but the number.
+UNENDED = {0x1003: b'\x81', 0x101E: b'ab', 0x101F: b'ab', 0x1102: b'\x03ab'}
+
+
+def whole_list(type_code):
+    return b'\x03' + b''.join(ELEMENTS[type_code][0])
+
+
+def faulty_lists(type_code):
+    """Lists at fault, each with the place in it: every element in turn (broken, missing, past the end) and the count."""
+    good, broken = ELEMENTS[type_code]
+    behind_count = whole_list(type_code)[1:]
+    for i in range(3):
+        front = b'\x03' + b''.join(good[:i])
+        for bad in broken:
+            yield front + bad + b''.join(good[i + 1:]), len(front)
+        yield front, len(front)
+        yield front + UNENDED[type_code], len(front)
+    yield b'\x81\x80' + good[0] * 127 + broken[0], 2 + 127 * len(good[0])
+    yield b'\x81\x80' + good[0] * 127, 2 + 127 * len(good[0])
+    yield b'\x04' + behind_count, 1 + len(behind_count)
+    yield b'\x84\xFF\xFF\xFF\xFF' + behind_count, 5 + len(behind_count)
+    for count in (b'\0', b'\x80', b'\x81\x7F', b'\x82\x03\0', b'\x85'):
+        yield count + behind_count, 0
+    for cut in (b'', b'\x81', b'\x84\x03\0'):
+        yield cut, 0
+
+
+def proxy_books():
+    """Lists at fault in an address record, behind another value and in the header record, each book with its refusal
+    (None: it is good)."""
+    for type_code, (good, broken) in ELEMENTS.items():
+        column, whole = (0x800F << 16 | type_code, 0), whole_list(type_code)
+        for value, inside in [(whole, None)] + list(faulty_lists(type_code)):
+            for table, first in (
+                    (([], [column], [], [[value], [whole]]), 41),
+                    (([], [column], [], [[whole], [value]]), 41 + len(whole) + 5),
+                    (([], [(0x3001001F, 2), column], [], [[b'key\0', value]]), 53),
+                    (([column], [column], [value], [[whole]]), 45)):
+                yield octets_of(table), None if inside is None else (11, first + inside)
+        # The first of two lists at fault is answered; octets behind the last element are none of the list's.
+        both = [column, (0x8009 << 16 | type_code, 0)]
+        yield octets_of(([], both, [], [[b'\x02' + good[0] + broken[0], b'\0']])), (11, 50 + len(good[0]))
+        yield octets_of(([], both, [], [[b'\x01' + good[0], b'\0']])), (11, 50 + len(good[0]))
+        yield octets_of(([], [column], [], [[b'\x01' + good[0] + broken[0]]])), (12, 42 + len(good[0]))

@@ -148,6 +148,20 @@ def walk(type_code, part):
     return at
 
 
+def fault(type_code, part):
+    """Where the value at the front of the part, which breaks its form, is at fault (request 109):
+    a list at its count if that is wrong, else at the first element at fault; a single value at its start."""
+    count = number_at(part) if type_code in ELEMENT else None
+    if count is None or count[0] == 0:
+        return 0
+    at = count[1]
+    width = walk(ELEMENT[type_code], part[at:])
+    while width is not None:                   # one of the elements is at fault, or the value weren't
+        at += width
+        width = walk(ELEMENT[type_code], part[at:])
+    return at
+
+
 # ---------------------------------------------------------------- presence
 
 def presence_octets(columns):
@@ -263,7 +277,7 @@ def read_record(book, at, columns, keys_bind):
             continue
         width = walk(type_of(tag), book[value:end])
         if width is None:
-            raise Refusal(11, value)
+            raise Refusal(11, value + fault(type_of(tag), book[value:end]))
         stretches.append((value, value + width))
         value += width
     if value != end:

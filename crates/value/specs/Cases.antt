@@ -161,7 +161,7 @@ module _ (k : Kind) (r : Number) (s : List ℕ) where
     list-start h = rw (← q, e) (simp (le-ltb n 1 h))
 
 list-step : (k : Kind) (n i : ℕ) (xs : List ℕ) → 0 < n
-    → listFrom k n i xs ≡ onto (elementOf k xs) (λ w. listFrom k (n - 1) (i + w) (drop w xs))
+    → listFrom k n i xs ≡ onto (elementOf k xs) i (λ w. listFrom k (n - 1) (i + w) (drop w xs))
 unfolding listFrom
 list-step k zero i xs h = absurd (omega arith)
 list-step k (suc n) i xs h = let e : suc n - 1 ≡ n = omega arith in simp e
@@ -172,7 +172,7 @@ module _ (k : Kind) (s : List ℕ) (left i : ℕ) (inv : listFrom k left i (drop
   list-end h = let z : left ≡ 0 = omega arith in rw z at inv
 
   module _ (r : Walk) (q : r ≡ elementOf k (take (length s - i) (drop i s))) (h : 0 < left) where
-    pub list-broken : (p : ℕ) → r ≡ Broken p → broken ≡ listOf k s
+    pub list-broken : (p : ℕ) → r ≡ Broken p → Broken i ≡ listOf k s
     list-broken p e =
         let z : elementOf k (drop i s) ≡ Broken p = rw rest-of at (sym q) ∙ e in
         simp (list-step k left i (drop i s) h, z) at inv

@@ -1,6 +1,7 @@
 -- How values and lists of values are written (2.9.6), and the two laws that tie that to the walks: read-back and sound.
 use Prim.Native.Nat.{ℕ, zero, suc, _+_, _-_, _^_, _≤_, _<_}
 use native.Mathlib.Omega.{arith}
+use native.Mathlib.Nat.{add-zero}
 use mathlib.Core.Path.{_≡_, refl, sym, ap, _∙_}
 use mathlib.Core.List.{List, [], _∷_, _++_, append-assoc}
 use lib.ListN.{length, take, drop, length-append, length-drop, take-append-drop}
@@ -92,23 +93,41 @@ abbrev pub Valids : Kind → List Item → Type 0
 Valids k [] = Unit {0}
 Valids k (v ∷ vs) = (kindOf v ≡ k) × Valid v × Valids k vs
 
-items-back : (k : Kind) (vs : List Item) → Valids k vs → (i : ℕ) (rest : List ℕ) → listFrom k (count vs) i (encodeItems vs ++ rest) ≡ Ends (i + length (encodeItems vs))
+-- the walk goes over the elements that were written and on to n more
+items-back : (k : Kind) (vs : List Item) → Valids k vs → (n i : ℕ) (rest : List ℕ)
+    → listFrom k (count vs + n) i (encodeItems vs ++ rest) ≡ listFrom k n (i + length (encodeItems vs)) rest
 unfolding listFrom
-items-back k [] h i rest = ap Ends (omega arith)
-items-back k (v ∷ vs) h i rest =
+items-back k [] h n i rest = let z : count [] + n ≡ n = omega arith in simp (z, add-zero)
+items-back k (v ∷ vs) h n i rest =
     let c = encodeItem v in
-    let first : elementOf k (c ++ (encodeItems vs ++ rest)) ≡ Ends (length c) = rw (h .0) at (item-back v (h .1) (encodeItems vs ++ rest)) in
-    let l : i + length c + length (encodeItems vs) ≡ i + length (c ++ encodeItems vs) = simp length-append (omega arith) in
-    simp (append-assoc, first, drop-append-seam) (items-back k vs (h .2) (i + length c) rest ∙ ap Ends l)
+    let first : elementOf k (c ++ (encodeItems vs ++ rest)) ≡ Ends (length c) =
+    rw (h .0) at (item-back v (h .1) (encodeItems vs ++ rest)) in
+    let ends : i + length c + length (encodeItems vs) ≡ i + length (c ++ encodeItems vs) =
+    simp length-append (omega arith) in
+    let more : count (v ∷ vs) + n ≡ suc (count vs + n) = omega arith in
+    let past = ap (listFrom k (count vs + n) (i + length c)) (drop-append-seam c (encodeItems vs ++ rest)) in
+    simp (more, append-assoc, first)
+    (past ∙ items-back k vs (h .2) n (i + length c) rest ∙ ap (λ (j : ℕ). listFrom k n j rest) ends)
+
+-- the walk goes over the count and the elements that were written, and on to n more
+pub list-front : (k : Kind) (vs : List Item) → Valids k vs → (m n : ℕ) → m ≡ count vs + n → 1 ≤ m → m < 2 ^ 32
+    → (rest : List ℕ)
+    → listOf k ((encodeNumber m ++ encodeItems vs) ++ rest)
+    ≡ listFrom k n (length (encodeNumber m ++ encodeItems vs)) rest
+unfolding listOf
+list-front k vs h m n e p q rest =
+    let c = encodeNumber m in
+    let tail : drop (length c) ((c ++ encodeItems vs) ++ rest) ≡ encodeItems vs ++ rest =
+    rw append-assoc (drop-append-seam c (encodeItems vs ++ rest)) in
+    let more = ap (λ (j : ℕ). listFrom k j (length c) (encodeItems vs ++ rest)) e in
+    simp (number-front m q (encodeItems vs) rest, le-ltb m 1 p, tail)
+    (more ∙ items-back k vs h n (length c) rest
+    ∙ ap (λ (j : ℕ). listFrom k n j rest) (sym (length-append c (encodeItems vs))))
 
 pub list-back : (k : Kind) (vs : List Item) → Valids k vs → 1 ≤ count vs → count vs < 2 ^ 32 → (rest : List ℕ)
     → listOf k (encodeList vs ++ rest) ≡ Ends (length (encodeList vs))
-unfolding listOf
-list-back k vs h p q rest =
-    let c = encodeNumber (count vs) in
-    let tail : drop (length c) ((c ++ encodeItems vs) ++ rest) ≡ encodeItems vs ++ rest = rw append-assoc (drop-append-seam c (encodeItems vs ++ rest)) in
-    simp (number-front (count vs) q (encodeItems vs) rest, le-ltb (count vs) 1 p, tail)
-    (items-back k vs h (length c) rest ∙ ap Ends (sym (length-append c (encodeItems vs))))
+unfolding listFrom
+list-back k vs h p q rest = list-front k vs h (count vs) 0 (omega arith) p q rest
 
 -- ---- what is read was written so
 
@@ -183,7 +202,7 @@ pub record WrittenAll (k : Kind) (n i : ℕ) (xs : List ℕ) (w : ℕ) : Type 0 
   pub ends : w ≡ i + length (encodeItems items)
 
 -- an item, and the items after it
-joined : (k : Kind) (n i v w : ℕ) (xs : List ℕ) → Written k xs v → WrittenAll k n (i + v) (drop v xs) w → WrittenAll k (suc n) i xs w
+unfoldable pub joined : (k : Kind) (n i v w : ℕ) (xs : List ℕ) → Written k xs v → WrittenAll k n (i + v) (drop v xs) w → WrittenAll k (suc n) i xs w
 joined k n i v w xs a r =
     let c = encodeItem (a .item) in
     let tail : drop v xs ≡ a .rest = ap (λ (l : List ℕ). drop v l) (a .reads) ∙ drop-at c (a .rest) v (sym (a .wide)) in
@@ -202,7 +221,7 @@ items-sound k zero i xs o w e =
     let z : i ≡ w = cc in
     record { items = []; valid = tt; many = refl; rest = xs; reads = refl; ends = omega arith }
 items-sound k (suc n) i xs o w e =
-    from-walk (elementOf k xs) _ w e
+    from-walk (elementOf k xs) _ _ w e
     (λ v p q. joined k n i v w xs (item-sound k xs o v p) (items-sound k n (i + v) (drop v xs) (octets-drop v xs o) w q))
 
 -- a list that is read was written so

@@ -3,6 +3,7 @@ pub mod Value
 pub mod Within
 pub mod Encode
 pub mod Form
+pub mod Fault
 pub mod Cases
 pub mod Small
 pub mod Short

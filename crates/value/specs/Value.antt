@@ -39,10 +39,10 @@ elementOf narrow xs = narrowOf xs
 elementOf text xs = textOf xs
 elementOf binary xs = binaryOf xs
 
--- n elements, where i octets have gone before
+-- n elements, where i octets have gone before; an element at fault breaks the list where it starts (request 109)
 unfoldable pub listFrom : Kind → ℕ → ℕ → List ℕ → Walk
 listFrom k zero i xs = Ends i
-listFrom k (suc n) i xs = onto (elementOf k xs) (λ w. listFrom k n (i + w) (drop w xs))
+listFrom k (suc n) i xs = onto (elementOf k xs) i (λ w. listFrom k n (i + w) (drop w xs))
 
 -- 2.9.6.6 to 2.9.6.9: a whole number of at least 1, and as many elements
 unfoldable pub listOf : Kind → List ℕ → Walk

@@ -10,7 +10,7 @@ use Rattle.octets.specs.Cases.{taken}
 use Rattle.octets.specs.Octets.{octetAt}
 use Rattle.answers.specs.declared.Walk.{Walk}
 use Rattle.answers.specs.declared.Walk.the-variants.{Ends, Broken}
-use Rattle.answers.specs.Walk.{no-end, from-walk, breakOf, break-either, break-onto}
+use Rattle.answers.specs.Walk.{no-end, from-walk, from-break, breakOf, break-either}
 use Rattle.whole.specs.declared.Number.{Number}
 use Rattle.whole.specs.declared.Number.the-variants.{Is, Broken as NoNumber}
 use Rattle.whole.specs.Number.{numberOf}
@@ -25,6 +25,12 @@ pub from-number : {X : Type 0} (r : Number) (f : ℕ → ℕ → Walk) (w : ℕ)
     → ((n k : ℕ) → r ≡ Is n k → f n k ≡ Ends w → X) → X
 from-number (Is n k) f w e g = g n k refl e
 from-number NoNumber f w e g = no-end e
+
+-- the number that a walk broke at or behind
+pub break-number : {X : Type 0} (r : Number) (f : ℕ → ℕ → Walk) (q : ℕ) → counted r f ≡ Broken q
+    → ((n k : ℕ) → r ≡ Is n k → f n k ≡ Broken q → X) → (r ≡ NoNumber → 0 ≡ q → X) → X
+break-number (Is n k) f q e g h = g n k refl e
+break-number NoNumber f q e g h = h refl cc
 
 pub numeric-within : (xs : List ℕ) (w : ℕ) → numericOf xs ≡ Ends w → w ≤ length xs
 unfolding numericOf
@@ -60,7 +66,7 @@ from-within : (k : Kind) (n i : ℕ) (xs : List ℕ) (w : ℕ) → listFrom k n 
 unfolding listFrom
 from-within k zero i xs w e = let z : i ≡ w = cc in omega arith
 from-within k (suc n) i xs w e =
-    from-walk (elementOf k xs) _ w e
+    from-walk (elementOf k xs) _ _ w e
     (λ v p q. let l = element-within k xs v p in
     let m = from-within k n (i + v) (drop v xs) w q in
     omega (arith, simp length-drop at m))
@@ -93,18 +99,29 @@ element-breaks narrow xs = narrow-breaks xs
 element-breaks text xs = text-breaks xs
 element-breaks binary xs = break-counted (numberOf xs) _ (λ n w. break-either (ltb n 1) _ _ refl (break-either (leb n (length xs - w)) _ _ refl refl))
 
-list-breaks : (k : Kind) (n i : ℕ) (xs : List ℕ) → breakOf (listFrom k n i xs) ≡ 0
+from-breaks : (k : Kind) (n i : ℕ) (xs : List ℕ) (q : ℕ) → listFrom k n i xs ≡ Broken q → q ≤ i + length xs
 unfolding listFrom
-list-breaks k zero i xs = refl
-list-breaks k (suc n) i xs = break-onto (elementOf k xs) _ (λ w. list-breaks k n (i + w) (drop w xs))
+from-breaks k zero i xs q e = no-end (sym e)
+from-breaks k (suc n) i xs q e =
+    from-break (elementOf k xs) _ _ q e
+    (λ w p z. let m = from-breaks k n (i + w) (drop w xs) q z in
+    omega (arith, element-within k xs w p, simp length-drop at m))
+    (λ s p z. omega arith)
 
-breaks : (f : Form) (xs : List ℕ) → breakOf (valueOf f xs) ≡ 0
-unfolding valueOf listOf
-breaks (one k) xs = element-breaks k xs
-breaks (many k) xs = break-counted (numberOf xs) _ (λ n w. break-either (ltb n 1) _ _ refl (list-breaks k n w (drop w xs)))
-breaks unknown xs = refl
+list-breaks : (k : Kind) (xs : List ℕ) (q : ℕ) → listOf k xs ≡ Broken q → q ≤ length xs
+unfolding listOf
+list-breaks k xs q e =
+    break-number (numberOf xs) _ q e
+    (λ n v p z. let l = number-within (numberOf xs) xs n v p refl in
+    taken (ltb n 1) _ _ _ z (λ t z. let y : 0 ≡ q = cc in omega arith)
+    (λ t z. omega (arith, simp length-drop at (from-breaks k n v (drop v xs) q z))))
+    (λ p z. omega arith)
 
-pub value-breaks : (r : Walk) (f : Form) (xs : List ℕ) (q : ℕ) → r ≡ valueOf f xs → r ≡ Broken q → q ≤ length xs
-value-breaks r f xs q e p =
-    let z : q ≡ 0 = sym (ap breakOf p) ∙ ap breakOf e ∙ breaks f xs in
-    omega arith
+pub element-break : (k : Kind) (xs : List ℕ) (q : ℕ) → elementOf k xs ≡ Broken q → q ≡ 0
+element-break k xs q e = sym (ap breakOf e) ∙ element-breaks k xs
+
+pub value-breaks : (f : Form) (xs : List ℕ) (q : ℕ) → valueOf f xs ≡ Broken q → q ≤ length xs
+unfolding valueOf
+value-breaks (one k) xs q e = omega (arith, element-break k xs q e)
+value-breaks (many k) xs q e = list-breaks k xs q e
+value-breaks unknown xs q e = let y : 0 ≡ q = cc in omega arith

@@ -76,7 +76,7 @@ fn list(kind: u8, s: &[u8]) -> Walk
     let mut i = w;
     while 0 < left {
         let Walk::Ends(k) = element(kind, &s[i..]) else {
-            return Walk::Broken(0);
+            return Walk::Broken(i);
         };
         i += k;
         left -= 1;

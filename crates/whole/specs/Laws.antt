@@ -137,7 +137,7 @@ record Long (k : ℕ) (xs : List ℕ) (n w : ℕ) : Type 0 where
   low : leastOf k ≤ n
   wide : 1 + k ≡ w
 
-no-number : {X : Type 0} {n w : ℕ} → Broken ≡ Is n w → X
+pub no-number : {X : Type 0} {n w : ℕ} → Broken ≡ Is n w → X
 no-number e = let z : _≡_ {A = ℕ} 0 1 = cc in absurd (omega arith)
 
 long-sound : (k : ℕ) (xs : List ℕ) (n w : ℕ) → longNumber k xs ≡ Is n w → Long k xs n w
