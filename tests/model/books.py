@@ -680,7 +680,7 @@ def whole_list(type_code):
 
 
 def faulty_lists(type_code):
-    """Lists at fault, each with the place in it: every element in turn (broken, missing, past the end) and the count."""
+    """Lists at fault, each with the place in it: every element in turn (broken, missing, past the end), the count."""
     good, broken = ELEMENTS[type_code]
     behind_count = whole_list(type_code)[1:]
     for i in range(3):
@@ -702,6 +702,9 @@ def faulty_lists(type_code):
 def proxy_books():
     """Lists at fault in an address record, behind another value and in the header record, each book with its refusal
     (None: it is good)."""
+    # Decision 6: a count that says more than there is, and an element of 1102 at its length.
+    yield octets_of(([], [(0x800F101F, 0)], [], [[b'\x03a\0b\0']])), (11, 41 + 5)
+    yield octets_of(([], [(0x800F1102, 0)], [], [[b'\x02\x01a\x03b']])), (11, 41 + 3)
     for type_code, (good, broken) in ELEMENTS.items():
         column, whole = (0x800F << 16 | type_code, 0), whole_list(type_code)
         for value, inside in [(whole, None)] + list(faulty_lists(type_code)):
