@@ -1,4 +1,4 @@
--- The refusal numbers of document 01 and the house limits, each named once for all definitions.
+-- The refusal numbers and the house limits, each named once for all definitions.
 use Prim.Native.Nat.{ℕ, _+_}
 
 abbrev pub tooLong : ℕ
@@ -54,6 +54,9 @@ noRoom = 17
 
 abbrev pub breaksForm : ℕ
 breaksForm = 18
+
+abbrev pub wrongIndex : ℕ
+wrongIndex = 19
 
 -- the house limits
 abbrev pub mostOctets : ℕ

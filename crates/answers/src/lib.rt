@@ -1,5 +1,6 @@
-// The answers' one vocabulary: a refusal is its number and its place, a verdict is clear or a refusal, a walk over a value ends or breaks.
-// Each refusal number of document 01 and each house limit is named here, and nowhere else in code.
+// The answers' one vocabulary: a refusal is its number and its place, a verdict is clear or a refusal, a walk over a value ends or breaks, what was made
+// has a length.
+// Each refusal number and each house limit is named here, and nowhere else in code.
 ghost use mathlib.Core.Path.{_≡_};
 ghost use Rattle.answers.specs.Verdict.{refused};
 
@@ -17,6 +18,12 @@ pub enum Verdict {
 pub enum Walk {
     Ends(usize),
     Broken(usize),
+}
+
+// The length of what was made, or the refusal.
+pub enum Made {
+    Done(usize),
+    Refused(Refusal),
 }
 
 pub const TOO_LONG: u32 = 1;
@@ -54,6 +61,8 @@ pub const BREAKS_RULE: u32 = 16;
 pub const NO_ROOM: u32 = 17;
 
 pub const BREAKS_FORM: u32 = 18;
+
+pub const WRONG_INDEX: u32 = 19;
 
 pub const MOST_OCTETS: usize = 16777216;
 

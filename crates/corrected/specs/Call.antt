@@ -15,8 +15,7 @@ use Rattle.answers.specs.Verdict.{need, kept, both, apart, met, unmet}
 use Rattle.book.specs.Book.{Book, Sound, bookOctets, judge, judge-back}
 use Rattle.book.specs.Whole.{judge-sound}
 use Rattle.editing.specs.Put.{bufferOf}
-use Rattle.correcting.specs.Correct.{bookAt, roomFor, answered}
-use Rattle.correcting.specs.declared.Corrected.the-variants as corrected
+use Rattle.correcting.specs.Correct.{bookAt, roomFor}
 use Rattle.corrected.specs.Buffer.{buffer-front, buffer-length, buffer-zero, buffer-past}
 
 -- ---- first: a book
@@ -50,15 +49,6 @@ room-may n d e =
 pub room-good : (n : ℕ) (d : List ℕ) → n ≤ mostOctets → n ≤ length d → roomFor n d ≡ clear
 unfolding roomFor
 room-good n d h k = both (met breaksRule 0 (le-leb n mostOctets h)) (met noRoom 0 (le-leb n (length d) k))
-
--- ---- the answer
-
-pub answered-done : (v : Verdict) (n m : ℕ) → answered v n ≡ corrected.Done m → (v ≡ clear) × (n ≡ m)
-answered-done clear n m e = (refl, cc)
-answered-done (Refused r) n m e = let z : _≡_ {A = ℕ} 0 1 = cc in absurd (omega arith)
-
-pub done-answered : (v : Verdict) (n m : ℕ) → v ≡ clear → n ≡ m → answered v n ≡ corrected.Done m
-done-answered v n m e q = rw (e, q)
 
 -- ---- what a call that is done leaves
 

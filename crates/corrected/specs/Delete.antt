@@ -9,6 +9,8 @@ use lib.Seq.{length-take-le}
 use borrow.Author.Tests.{ltb-true, lt-ltb}
 use Rattle.octets.specs.Octets.{Octets}
 use Rattle.answers.specs.Numbers.{outOfTurn, breaksRule}
+use Rattle.answers.specs.declared.Made.the-variants as made
+use Rattle.answers.specs.Made.{answered-done, done-answered}
 use Rattle.answers.specs.declared.Verdict.the-variants.{Clear as clear}
 use Rattle.answers.specs.Verdict.{need, both, apart, met, unmet}
 use Rattle.book.specs.Book.{Book, bookOctets, countIn}
@@ -16,9 +18,8 @@ use Rattle.editing.specs.Put.{correctedOf}
 use Rattle.editing.specs.Edit.{edit}
 use Rattle.editing.specs.Records.{deleted, deleted-length, deleted-sound}
 use Rattle.correcting.specs.Correct.{bookAt, deleteBook, deleteAt, deleteAnswer, deleteOctets}
-use Rattle.correcting.specs.declared.Corrected.the-variants as corrected
 use Rattle.corrected.specs.Named.{count-of}
-use Rattle.corrected.specs.Call.{BookIn, book-may, book-good, answered-done, done-answered, Corrects, corrects}
+use Rattle.corrected.specs.Call.{BookIn, book-may, book-good, Corrects, corrects}
 
 -- the book has record k, and others
 pub record DeleteMay (d : List ℕ) (len k : ℕ) : Type 0 where
@@ -33,7 +34,7 @@ module _ (d : List ℕ) (len k : ℕ) where
       record { on = x; within = rw c at h; others = rw c at g }
 
   -- answered with a new length: what is asked holds
-  pub delete-may : Octets d → (m : ℕ) → deleteAnswer d len k ≡ corrected.Done m → DeleteMay d len k
+  pub delete-may : Octets d → (m : ℕ) → deleteAnswer d len k ≡ made.Done m → DeleteMay d len k
   unfolding deleteAnswer deleteAt
   delete-may od m h =
       let xs : List ℕ = take len d in
@@ -58,7 +59,7 @@ module _ (d : List ℕ) (len k : ℕ) where
         (both (met outOfTurn 0 (lt-ltb k (countIn (take len d)) (rw c (x .within)))) (met breaksRule 0 (lt-ltb 1 (countIn (take len d)) (rw c (x .others)))))
 
     -- what is asked holds: answered with the corrected book's length
-    pub delete-answered : deleteAnswer d len k ≡ corrected.Done (length (bookOctets (edit k 1 [] b)))
+    pub delete-answered : deleteAnswer d len k ≡ made.Done (length (bookOctets (edit k 1 [] b)))
     unfolding deleteAnswer
     delete-answered = done-answered (deleteAt d len k) (length (deleteBook d len k)) _ delete-clear (ap length delete-book)
 
@@ -67,7 +68,7 @@ pub record DeleteDone (d : List ℕ) (len k m : ℕ) : Type 0 where
   pub may : DeleteMay d len k
   pub corrects : Corrects d len (deleteOctets d len k) m (may .on .book) (edit k 1 [] (may .on .book))
 
-from-may : (d : List ℕ) (len k m : ℕ) → DeleteMay d len k → deleteAnswer d len k ≡ corrected.Done m → DeleteDone d len k m
+from-may : (d : List ℕ) (len k m : ℕ) → DeleteMay d len k → deleteAnswer d len k ≡ made.Done m → DeleteDone d len k m
 unfolding deleteAnswer deleteOctets
 from-may d len k m x h =
     let b : Book = x .on .book in
@@ -83,5 +84,5 @@ from-may d len k m x h =
     }
 
 -- Deleting record k: where the call is answered with a new length it leaves the corrected book.
-pub delete-done : (d : List ℕ) → Octets d → (len k m : ℕ) → deleteAnswer d len k ≡ corrected.Done m → DeleteDone d len k m
+pub delete-done : (d : List ℕ) → Octets d → (len k m : ℕ) → deleteAnswer d len k ≡ made.Done m → DeleteDone d len k m
 delete-done d od len k m h = from-may d len k m (delete-may d len k od m h) h

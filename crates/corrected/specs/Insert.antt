@@ -10,6 +10,8 @@ use borrow.Author.Tests.{leb-true, le-leb, ltb-true, lt-ltb, eqb-true, eq-eqb}
 use Rattle.octets.specs.Octets.{Octets}
 use Rattle.octets.specs.Word.{wordOf}
 use Rattle.answers.specs.Numbers.{outOfTurn, breaksRule, breaksForm, mostOctets, mostRecords}
+use Rattle.answers.specs.declared.Made.the-variants as made
+use Rattle.answers.specs.Made.{answered-done, done-answered}
 use Rattle.answers.specs.declared.Verdict.{Verdict}
 use Rattle.answers.specs.declared.Verdict.the-variants.{Clear as clear, Refused}
 use Rattle.answers.specs.Verdict.{need, both, apart, met, unmet}
@@ -21,9 +23,8 @@ use Rattle.editing.specs.Edit.{edit}
 use Rattle.editing.specs.Offered.{Offered, offered-keyed}
 use Rattle.editing.specs.Records.{inserted, inserted-sound, inserted-length}
 use Rattle.correcting.specs.Correct.{bookAt, offeredAt, insertBook, insertAt, insertAnswer, insertOctets}
-use Rattle.correcting.specs.declared.Corrected.the-variants as corrected
 use Rattle.corrected.specs.Named.{count-of, cols-of}
-use Rattle.corrected.specs.Call.{BookIn, book-may, book-good, room-may, room-good, answered-done, done-answered, Corrects, corrects}
+use Rattle.corrected.specs.Call.{BookIn, book-may, book-good, room-may, room-good, Corrects, corrects}
 
 -- ---- the record offered
 
@@ -84,7 +85,7 @@ module _ (d : List ℕ) (len k : ℕ) (new : List ℕ) where
       }
 
   -- answered with a new length: what is asked holds
-  pub insert-may : Octets d → Octets new → (m : ℕ) → insertAnswer d len k new ≡ corrected.Done m → InsertMay d len k new
+  pub insert-may : Octets d → Octets new → (m : ℕ) → insertAnswer d len k new ≡ made.Done m → InsertMay d len k new
   unfolding insertAnswer insertAt insertBook
   insert-may od o m h =
       let xs : List ℕ = take len d in
@@ -121,7 +122,7 @@ module _ (d : List ℕ) (len k : ℕ) (new : List ℕ) where
         (room-good (length (insertBook d len k new)) d (rw w (x .short)) (rw w (x .room))))))
 
     -- what is asked holds: answered with the corrected book's length
-    pub insert-answered : insertAnswer d len k new ≡ corrected.Done (length (bookOctets (edit k 0 (x .row ∷ []) b)))
+    pub insert-answered : insertAnswer d len k new ≡ made.Done (length (bookOctets (edit k 0 (x .row ∷ []) b)))
     unfolding insertAnswer
     insert-answered = done-answered (insertAt d len k new) (length (insertBook d len k new)) _ insert-clear (ap length insert-book)
 
@@ -130,7 +131,7 @@ pub record InsertDone (d : List ℕ) (len k : ℕ) (new : List ℕ) (m : ℕ) : 
   pub may : InsertMay d len k new
   pub corrects : Corrects d len (insertOctets d len k new) m (may .on .book) (edit k 0 (may .row ∷ []) (may .on .book))
 
-from-may : (d : List ℕ) (len k : ℕ) (new : List ℕ) (m : ℕ) → InsertMay d len k new → insertAnswer d len k new ≡ corrected.Done m → InsertDone d len k new m
+from-may : (d : List ℕ) (len k : ℕ) (new : List ℕ) (m : ℕ) → InsertMay d len k new → insertAnswer d len k new ≡ made.Done m → InsertDone d len k new m
 unfolding insertAnswer insertOctets
 from-may d len k new m x h =
     let b : Book = x .on .book in
@@ -142,5 +143,5 @@ from-may d len k new m x h =
     }
 
 -- Inserting a record before record k, k up to the count: where the call is answered with a new length it leaves the corrected book.
-pub insert-done : (d : List ℕ) → Octets d → (len k : ℕ) (new : List ℕ) → Octets new → (m : ℕ) → insertAnswer d len k new ≡ corrected.Done m → InsertDone d len k new m
+pub insert-done : (d : List ℕ) → Octets d → (len k : ℕ) (new : List ℕ) → Octets new → (m : ℕ) → insertAnswer d len k new ≡ made.Done m → InsertDone d len k new m
 insert-done d od len k new o m h = from-may d len k new m (insert-may d len k new od o m h) h

@@ -9,6 +9,8 @@ use lib.ListN.{length, getD, take}
 use borrow.Author.Tests.{not-true}
 use Rattle.octets.specs.Octets.{Octets}
 use Rattle.answers.specs.Numbers.{outOfTurn, breaksRule, breaksForm, mostOctets}
+use Rattle.answers.specs.declared.Made.the-variants as made
+use Rattle.answers.specs.Made.{answered-done, done-answered}
 use Rattle.answers.specs.declared.Verdict.the-variants.{Clear as clear}
 use Rattle.answers.specs.Verdict.{need, both, apart, met, unmet}
 use Rattle.table.specs.Columns.{tagsOf}
@@ -26,9 +28,8 @@ use Rattle.editing.specs.Done.{slotsUnder, setTo, set-is, set-sound}
 use Rattle.lookup.specs.Named.{There, hasRecord}
 use Rattle.correcting.specs.Correct.{bookAt, fits, losing, columnFor, slotFor, entryAt, setAt, setBook, setAnswer}
 use Rattle.correcting.specs.Correct.{setOctets}
-use Rattle.correcting.specs.declared.Corrected.the-variants as corrected
 use Rattle.corrected.specs.Named.{named-in, has-named, column-for, slot-for, found-is, Offers, entry-sound, entry-fits, entry-keeps}
-use Rattle.corrected.specs.Call.{BookIn, book-may, book-good, room-may, room-good, answered-done, done-answered, Corrects, corrects}
+use Rattle.corrected.specs.Call.{BookIn, book-may, book-good, room-may, room-good, Corrects, corrects}
 
 -- The book has the named record and a column with the whole tag; the column may hold what is offered, a value of its form to the last octet, or nothing
 -- where it is no key; the corrected book keeps the limit and has room.
@@ -56,7 +57,7 @@ module _ (d : List ℕ) (len : ℕ) (which : Which) (t : ℕ) (e : Option (List 
       record { on = x; named = y; column = c; found = z; holds = rw (slot-for (take len d) (x .book) (x .reads) (x .sound) which c) at g; short = omega arith; room = omega arith }
 
   -- answered with a new length: what is asked holds
-  pub set-may : Octets d → Offers e → (m : ℕ) → setAnswer d len which t e ≡ corrected.Done m → SetMay d len which t e
+  pub set-may : Octets d → Offers e → (m : ℕ) → setAnswer d len which t e ≡ made.Done m → SetMay d len which t e
   unfolding setAnswer setAt entryAt
   set-may od o m h =
       let xs : List ℕ = take len d in
@@ -102,7 +103,7 @@ module _ (d : List ℕ) (len : ℕ) (which : Which) (t : ℕ) (e : Option (List 
         (ap (λ (f : Found). entryAt d (take len d) which (columnOf f) e) column-is ∙ entry-good)))
 
     -- what is asked holds: answered with the corrected book's length
-    pub set-answered : setAnswer d len which t e ≡ corrected.Done (length (bookOctets (setTo which (x .column) e b)))
+    pub set-answered : setAnswer d len which t e ≡ made.Done (length (bookOctets (setTo which (x .column) e b)))
     unfolding setAnswer
     set-answered = done-answered (setAt d len which t e) (length (setBook d len which t e)) _ set-clear (ap length set-book)
 
@@ -111,7 +112,7 @@ pub record SetDone (d : List ℕ) (len : ℕ) (which : Which) (t : ℕ) (e : Opt
   pub may : SetMay d len which t e
   pub corrects : Corrects d len (setOctets d len which t e) m (may .on .book) (setTo which (may .column) e (may .on .book))
 
-from-may : (d : List ℕ) (len : ℕ) (which : Which) (t : ℕ) (e : Option (List ℕ)) (m : ℕ) → SetMay d len which t e → setAnswer d len which t e ≡ corrected.Done m → SetDone d len which t e m
+from-may : (d : List ℕ) (len : ℕ) (which : Which) (t : ℕ) (e : Option (List ℕ)) (m : ℕ) → SetMay d len which t e → setAnswer d len which t e ≡ made.Done m → SetDone d len which t e m
 unfolding setAnswer setOctets
 from-may d len which t e m x h =
     let b : Book = x .on .book in
@@ -124,5 +125,5 @@ from-may d len which t e m x h =
     }
 
 -- Setting or clearing a value in an address record or the header record: where the call is answered with a new length it leaves the corrected book.
-pub set-done : (d : List ℕ) → Octets d → (len : ℕ) (which : Which) (t : ℕ) (e : Option (List ℕ)) → Offers e → (m : ℕ) → setAnswer d len which t e ≡ corrected.Done m → SetDone d len which t e m
+pub set-done : (d : List ℕ) → Octets d → (len : ℕ) (which : Which) (t : ℕ) (e : Option (List ℕ)) → Offers e → (m : ℕ) → setAnswer d len which t e ≡ made.Done m → SetDone d len which t e m
 set-done d od len which t e o m h = from-may d len which t e m (set-may d len which t e od o m h) h

@@ -8,6 +8,8 @@ use lib.ListN.{length, getD, take}
 use lib.Seq.{length-take-le}
 use Rattle.octets.specs.Cases.{split}
 use Rattle.octets.specs.Octets.{Octets, octets-take}
+use Rattle.answers.specs.declared.Made.the-variants as made
+use Rattle.answers.specs.Made.{refused-keeps}
 use Rattle.answers.specs.declared.Verdict.{Verdict}
 use Rattle.answers.specs.declared.Verdict.the-variants.{Clear as clear, Refused}
 use Rattle.answers.specs.declared.Refusal.{Refusal}
@@ -29,8 +31,7 @@ use Rattle.editing.specs.Put.{bufferOf}
 use Rattle.editing.specs.Entry.{entryAt}
 use Rattle.editing.specs.Done.{slotsUnder, setTo, set-same}
 use Rattle.lookup.specs.Named.{There}
-use Rattle.correcting.specs.Correct.{answered, setAt, setBook, setAnswer, setOctets, insertAt, insertBook, insertAnswer, insertOctets, deleteAt, deleteBook, deleteAnswer, deleteOctets}
-use Rattle.correcting.specs.declared.Corrected.the-variants as corrected
+use Rattle.correcting.specs.Correct.{setAt, setBook, setAnswer, setOctets, insertAt, insertBook, insertAnswer, insertOctets, deleteAt, deleteBook, deleteAnswer, deleteOctets}
 use Rattle.corrected.specs.Buffer.{buffer-same}
 use Rattle.corrected.specs.Named.{row-sound, slots-reach}
 use Rattle.corrected.specs.Call.{BookIn}
@@ -39,22 +40,18 @@ use Rattle.corrected.specs.Handed.{refused, handedBy, handedOf, entryOn,
 
 -- ---- a refused call
 
-refused-keeps : (v : Verdict) (n : ℕ) (r : Refusal) (d new : List ℕ) → answered v n ≡ corrected.Refused r → kept v d new ≡ d
-refused-keeps clear n r d new e = let z : _≡_ {A = ℕ} 0 1 = cc in absurd (omega arith)
-refused-keeps (Refused s) n r d new e = refl
-
 -- A refused set or clear changes no octet.
-pub set-refused : (d : List ℕ) (len : ℕ) (which : Which) (t : ℕ) (e : Option (List ℕ)) (r : Refusal) → setAnswer d len which t e ≡ corrected.Refused r → setOctets d len which t e ≡ d
+pub set-refused : (d : List ℕ) (len : ℕ) (which : Which) (t : ℕ) (e : Option (List ℕ)) (r : Refusal) → setAnswer d len which t e ≡ made.Refused r → setOctets d len which t e ≡ d
 unfolding setAnswer setOctets
 set-refused d len which t e r q = refused-keeps (setAt d len which t e) (length (setBook d len which t e)) r d (bufferOf d len (setBook d len which t e)) q
 
 -- Nor does a refused insert.
-pub insert-refused : (d : List ℕ) (len k : ℕ) (new : List ℕ) (r : Refusal) → insertAnswer d len k new ≡ corrected.Refused r → insertOctets d len k new ≡ d
+pub insert-refused : (d : List ℕ) (len k : ℕ) (new : List ℕ) (r : Refusal) → insertAnswer d len k new ≡ made.Refused r → insertOctets d len k new ≡ d
 unfolding insertAnswer insertOctets
 insert-refused d len k new r q = refused-keeps (insertAt d len k new) (length (insertBook d len k new)) r d (bufferOf d len (insertBook d len k new)) q
 
 -- Nor a refused delete.
-pub delete-refused : (d : List ℕ) (len k : ℕ) (r : Refusal) → deleteAnswer d len k ≡ corrected.Refused r → deleteOctets d len k ≡ d
+pub delete-refused : (d : List ℕ) (len k : ℕ) (r : Refusal) → deleteAnswer d len k ≡ made.Refused r → deleteOctets d len k ≡ d
 unfolding deleteAnswer deleteOctets
 delete-refused d len k r q = refused-keeps (deleteAt d len k) (length (deleteBook d len k)) r d (bufferOf d len (deleteBook d len k)) q
 
@@ -112,43 +109,43 @@ module _ (d : List ℕ) (len : ℕ) (which : Which) (t : ℕ) (e : Option (List 
         room = omega arith;
       }
 
-  same-set : (x : SetMay d len which t e) → entryAt (rowFor (x .on .book) which) (x .column) ≡ e → (setAnswer d len which t e ≡ corrected.Done len) × (setOctets d len which t e ≡ d)
+  same-set : (x : SetMay d len which t e) → entryAt (rowFor (x .on .book) which) (x .column) ≡ e → (setAnswer d len which t e ≡ made.Done len) × (setOctets d len which t e ≡ d)
   unfolding setOctets
   same-set x q =
       let b : Book = x .on .book in
       let z : setTo which (x .column) e b ≡ b = set-same b which (x .column) e (x .named) q in
       let y : setBook d len which t e ≡ take len d = set-book d len which t e x ∙ ap bookOctets z ∙ sym (x .on .reads) in
       let w : length (bookOctets (setTo which (x .column) e b)) ≡ len = ap (λ (u : Book). length (bookOctets u)) z ∙ ap length (sym (x .on .reads)) ∙ length-take-le len d (x .on .whole) in (
-        set-answered d len which t e x ∙ ap corrected.Done w,
+        set-answered d len which t e x ∙ ap made.Done w,
         ap (λ (v : Verdict). kept v d (bufferOf d len (setBook d len which t e))) (set-clear d len which t e x) ∙ ap (bufferOf d len) y ∙ buffer-same d len (x .on .whole),
       )
 
-  from-book : (x : BookIn d len) → handedOf (bookOctets (x .book)) which t ≡ entryOn e → (setAnswer d len which t e ≡ corrected.Done len) × (setOctets d len which t e ≡ d)
+  from-book : (x : BookIn d len) → handedOf (bookOctets (x .book)) which t ≡ entryOn e → (setAnswer d len which t e ≡ made.Done len) × (setOctets d len which t e ≡ d)
   unfolding same-may
   from-book x q =
       let h : There (x .book) which = handed-there d len x which t e q in
       go (columnIn t (tagsOf (columnsFor (x .book) which))) refl h (sym (handed-is (x .book) (x .sound) which t h) ∙ q)
     where
       go : (f : Found) → columnIn t (tagsOf (columnsFor (x .book) which)) ≡ f → There (x .book) which → handedIn f (rowFor (x .book) which) ≡ entryOn e
-          → (setAnswer d len which t e ≡ corrected.Done len) × (setOctets d len which t e ≡ d)
+          → (setAnswer d len which t e ≡ made.Done len) × (setOctets d len which t e ≡ d)
       go Nothing z h q = no-refusal _ e q
       go (At c) z h q = let y = entry-one (entryAt (rowFor (x .book) which) c) e q in same-set (same-may x c h z y) y
 
 -- Where a lookup hands back what is offered, the call is done, the answer is the old length, and no octet changes.
 pub unchanged : (d : List ℕ) → Octets d → (len : ℕ) → len ≤ length d → (which : Which) (t : ℕ) (e : Option (List ℕ)) → handedOf (take len d) which t ≡ entryOn e
-    → (setAnswer d len which t e ≡ corrected.Done len) × (setOctets d len which t e ≡ d)
+    → (setAnswer d len which t e ≡ made.Done len) × (setOctets d len which t e ≡ d)
 unchanged d o len h which t e q =
     let b = judge-sound (take len d) (octets-take len d o) (handed-good (take len d) which t e q) in
     from-book d len which t e (record { book = b .book; sound = b .sound; reads = b .reads; whole = h }) (ap (λ (z : List ℕ). handedOf z which t) (sym (b .reads)) ∙ q)
 
 -- Clearing a value that is absent.
 pub clear-absent : (d : List ℕ) → Octets d → (len : ℕ) → len ≤ length d → (which : Which) (t : ℕ) → lookupOf (take len d) which t ≡ looked.Absent
-    → (setAnswer d len which t none ≡ corrected.Done len) × (setOctets d len which t none ≡ d)
+    → (setAnswer d len which t none ≡ made.Done len) × (setOctets d len which t none ≡ d)
 unfolding handedOf
 clear-absent d o len h which t q = unchanged d o len h which t none (ap (handedBy (take len d)) q)
 
 -- Setting the value that is there, which is the stretch of a lookup.
 pub set-again : (d : List ℕ) → Octets d → (len : ℕ) → len ≤ length d → (which : Which) (t s f : ℕ) → lookupOf (take len d) which t ≡ looked.At s f
-    → (setAnswer d len which t (some (stretchOf (take len d) which t)) ≡ corrected.Done len) × (setOctets d len which t (some (stretchOf (take len d) which t)) ≡ d)
+    → (setAnswer d len which t (some (stretchOf (take len d) which t)) ≡ made.Done len) × (setOctets d len which t (some (stretchOf (take len d) which t)) ≡ d)
 unfolding handedOf stretchOf
 set-again d o len h which t s f q = unchanged d o len h which t (some (stretchOf (take len d) which t)) (rw q)

@@ -51,7 +51,7 @@ use Rattle.correcting.specs.Correct.{bookAt, roomFor, fits, losing, colu
 use Rattle.correcting.specs.Correct.{setAt as setVerdict, setBook, setAnswer, setOctets}
 use Rattle.correcting.specs.Find.{cellAt, cell-free, Lies, cell-lies}
 use Rattle.correcting.specs.declared.Plan.{Plan}
-use Rattle.correcting.specs.declared.Corrected.the-variants as corrected
+use Rattle.answers.specs.declared.Made.the-variants as made
 use Rattle.editing.specs.Entry.{mark-length}
 
 -- ---- what is decided before anything is written
@@ -390,7 +390,7 @@ plan-found b room which t e q p z =
 -- ---- correct
 
 module _ (d v : List ℕ) (len tag : ℕ) (which : Which) (t : Bool) where
-  pub set-short : length d < len → (r : Refusal) → r ≡ record { number = outOfTurn; place = 0 } → corrected.Refused r ≡ setAnswer d len which tag (offered t v)
+  pub set-short : length d < len → (r : Refusal) → r ≡ record { number = outOfTurn; place = 0 } → made.Refused r ≡ setAnswer d len which tag (offered t v)
   unfolding setAnswer setVerdict bookAt
   set-short h r q = rw (lt-leb len (length d) h, q)
 
@@ -405,7 +405,7 @@ module _ (d v : List ℕ) (len tag : ℕ) (which : Which) (t : Bool) where
     verdict-is : setVerdict d len which tag (offered t v) ≡ p .verdict
     verdict-is = set-verdict d len which tag (offered t v) h ∙ ap (λ (x : Plan). x .verdict) (sym plan-is)
 
-    pub set-refused : (r : Refusal) → p .verdict ≡ Refused r → corrected.Refused r ≡ setAnswer d len which tag (offered t v)
+    pub set-refused : (r : Refusal) → p .verdict ≡ Refused r → made.Refused r ≡ setAnswer d len which tag (offered t v)
     unfolding setAnswer
     set-refused r z = rw (verdict-is, z)
 
@@ -448,7 +448,7 @@ module _ (d v : List ℕ) (len tag : ℕ) (which : Which) (t : Bool) where
               let f : wordOf 4 (drop (startFor b which) d) ≡ wordOf 4 (drop (startFor b which) b) = word-taken d len (startFor b which) (omega arith) h in
               rw (l .place, l .columns) (o, x, omega arith, h, n, rw f (omega arith), w)
 
-      pub set-done : corrected.Done (len - p .cell .long + length v) ≡ setAnswer d len which tag (offered t v)
+      pub set-done : made.Done (len - p .cell .long + length v) ≡ setAnswer d len which tag (offered t v)
       unfolding setAnswer setBook
       set-done = rw (verdict-is, z, column-for (take len d) which tag, set-long (take len d) which (columnHere (take len d) which tag) (offered t v), size-is)
 

@@ -8,8 +8,9 @@ use lib.Dec.{eqb, ltb, leb}
 use lib.ListN.{length, getD, take, drop}
 use Rattle.octets.specs.Word.{wordOf}
 use Rattle.answers.specs.Numbers.{outOfTurn, breaksRule, noRoom, breaksForm, mostOctets, mostRecords}
+use Rattle.answers.specs.declared.Made.{Made}
 use Rattle.answers.specs.declared.Verdict.{Verdict}
-use Rattle.answers.specs.declared.Verdict.the-variants.{Clear as clear, Refused}
+use Rattle.answers.specs.Made.{answered}
 use Rattle.answers.specs.Verdict.{_then_, need, kept}
 use Rattle.answers.specs.Walk.{endsAt}
 use Rattle.value.specs.Value.{valueOf}
@@ -23,8 +24,6 @@ use Rattle.lookup.specs.Look.{columnIn}
 use Rattle.lookup.specs.declared.Which.{Which}
 use Rattle.lookup.specs.declared.Which.the-variants.{Header, Number}
 use Rattle.editing.specs.Put.{bufferOf, correctedOf, slotsFor, setIn}
-use Rattle.correcting.specs.declared.Corrected.{Corrected}
-use Rattle.correcting.specs.declared.Corrected.the-variants as corrected
 
 -- ---- what every call asks first and last
 
@@ -37,10 +36,6 @@ unfoldable pub roomFor : ℕ → List ℕ → Verdict
 roomFor n d =
     need (leb n mostOctets) breaksRule 0
     then need (leb n (length d)) noRoom 0
-
-abbrev pub answered : Verdict → ℕ → Corrected
-answered clear n = corrected.Done n
-answered (Refused r) n = corrected.Refused r
 
 -- ---- set and clear: what is offered for the column is a value, or nothing
 
@@ -80,7 +75,7 @@ setAt d len which t e =
 unfoldable pub setBook : List ℕ → ℕ → Which → ℕ → Option (List ℕ) → List ℕ
 setBook d len which t e = setIn (take len d) which (columnOf (columnFor (take len d) which t)) e
 
-unfoldable pub setAnswer : List ℕ → ℕ → Which → ℕ → Option (List ℕ) → Corrected
+unfoldable pub setAnswer : List ℕ → ℕ → Which → ℕ → Option (List ℕ) → Made
 setAnswer d len which t e = answered (setAt d len which t e) (length (setBook d len which t e))
 
 unfoldable pub setOctets : List ℕ → ℕ → Which → ℕ → Option (List ℕ) → List ℕ
@@ -106,7 +101,7 @@ insertAt d len k new =
     then need (ltb (countIn (take len d)) mostRecords) breaksRule 0
     then roomFor (length (insertBook d len k new)) d
 
-unfoldable pub insertAnswer : List ℕ → ℕ → ℕ → List ℕ → Corrected
+unfoldable pub insertAnswer : List ℕ → ℕ → ℕ → List ℕ → Made
 insertAnswer d len k new = answered (insertAt d len k new) (length (insertBook d len k new))
 
 unfoldable pub insertOctets : List ℕ → ℕ → ℕ → List ℕ → List ℕ
@@ -124,7 +119,7 @@ deleteAt d len k =
     then need (ltb k (countIn (take len d))) outOfTurn 0
     then need (ltb 1 (countIn (take len d))) breaksRule 0
 
-unfoldable pub deleteAnswer : List ℕ → ℕ → ℕ → Corrected
+unfoldable pub deleteAnswer : List ℕ → ℕ → ℕ → Made
 deleteAnswer d len k = answered (deleteAt d len k) (length (deleteBook d len k))
 
 unfoldable pub deleteOctets : List ℕ → ℕ → ℕ → List ℕ

@@ -1,4 +1,5 @@
 // A value of a book set or cleared where the book stands. The book is judged first; a refused call changes no octet.
+use answers::Made;
 use answers::Refusal;
 use answers::Verdict;
 use answers::Walk;
@@ -22,12 +23,6 @@ ghost use Rattle.editing.specs.Stands.{Stands};
 ghost use Rattle.correcting.specs.Correct.{setAnswer, setOctets};
 ghost use Rattle.correcting.specs.Find.{asStretch, cellAt};
 ghost use Rattle.correcting.specs.Cases.{noPlan, entryOf, planColumn, planIn, planOf};
-
-// The new length of the book, or the refusal.
-pub enum Corrected {
-    Done(usize),
-    Refused(Refusal),
-}
 
 // Where a value stands or would stand, and how long it is.
 struct Stretch {
@@ -246,12 +241,12 @@ fn correct(
     tag: u32,
     there: bool,
     value: &[u8],
-) -> Corrected
+) -> Made
     requires { ⌜ now value ≡ entryOctets (offered there (now value)) ⌝ }
     ensures { λ r. ⌜ (r ≡ setAnswer (now (buf .entry)) len which tag (offered there (now (value .entry)))) × (now (buf .exit) ≡ setOctets (now (buf .entry)) len which tag (offered there (now (value .entry)))) ⌝ }
 {
     if buf.len() < len {
-        return Corrected::Refused(Refusal {
+        return Made::Refused(Refusal {
             number: answers::OUT_OF_TURN,
             place: 0,
         });
@@ -259,22 +254,22 @@ fn correct(
     let plan = decide(&buf[0..len], buf.len(), which, tag, there, value);
     let verdict = plan.verdict;
     if let Verdict::Refused(r) = verdict {
-        return Corrected::Refused(r);
+        return Made::Refused(r);
     }
     let cell = plan.cell;
     editing::put_entry(buf, len, cell, there, value, plan.count);
-    Corrected::Done(len - cell.long + value.len())
+    Made::Done(len - cell.long + value.len())
 }
 
 // The value of a record with a whole tag of its table becomes the offered encoding.
-pub fn set(buf: &mut [u8], len: usize, which: Which, tag: u32, value: &[u8]) -> Corrected
+pub fn set(buf: &mut [u8], len: usize, which: Which, tag: u32, value: &[u8]) -> Made
     ensures { λ r. ⌜ (r ≡ setAnswer (now (buf .entry)) len which tag (some (now (value .entry)))) × (now (buf .exit) ≡ setOctets (now (buf .entry)) len which tag (some (now (value .entry)))) ⌝ }
 {
     correct(buf, len, which, tag, true, value)
 }
 
 // The record loses its value with a whole tag of its table.
-pub fn clear(buf: &mut [u8], len: usize, which: Which, tag: u32) -> Corrected
+pub fn clear(buf: &mut [u8], len: usize, which: Which, tag: u32) -> Made
     ensures { λ r. ⌜ (r ≡ setAnswer (now (buf .entry)) len which tag none) × (now (buf .exit) ≡ setOctets (now (buf .entry)) len which tag none) ⌝ }
 {
     let nothing = [0u8; 1];

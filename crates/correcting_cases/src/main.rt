@@ -1,6 +1,6 @@
 // Plays corrections from a stream: a line for each, with what the call answers and the serial of the whole buffer behind it.
 // The first octet of a case says which call it is. tests/make.py has the list and the lines' form.
-use correcting::Corrected;
+use answers::Made;
 use lines::NO_CASE;
 use lines::flush;
 use lines::next_case;
@@ -32,7 +32,7 @@ fn which(n: u32) -> Which {
     Which::Number(n as usize)
 }
 
-fn call(what: u32, case: &[u8], buf: &mut [u8], stated: usize) -> Corrected {
+fn call(what: u32, case: &[u8], buf: &mut [u8], stated: usize) -> Made {
     let k = word32(case, 1);
     if what == 1 {
         let at = first(case, 9);
@@ -94,13 +94,13 @@ fn ready(case: &[u8], buf: &mut [u8], st: State) -> State {
 
 // ---- lines
 
-fn answered(answer: Corrected, out: &mut [u8; 4096], at: usize) -> usize {
+fn answered(answer: Made, out: &mut [u8; 4096], at: usize) -> usize {
     match answer {
-        Corrected::Done(length) => {
+        Made::Done(length) => {
             let at = words(out, at, b"done");
             next_decimal(out, at, length as u64)
         }
-        Corrected::Refused(r) => {
+        Made::Refused(r) => {
             let at = words(out, at, b"refused");
             let at = next_decimal(out, at, r.number as u64);
             next_decimal(out, at, r.place as u64)
@@ -109,10 +109,10 @@ fn answered(answer: Corrected, out: &mut [u8; 4096], at: usize) -> usize {
 }
 
 // The stated length behind a call.
-fn behind(answer: Corrected, stated: usize) -> usize {
+fn behind(answer: Made, stated: usize) -> usize {
     match answer {
-        Corrected::Done(length) => length,
-        Corrected::Refused(_) => stated,
+        Made::Done(length) => length,
+        Made::Refused(_) => stated,
     }
 }
 

@@ -1,3 +1,1 @@
-pub mod Mending
-pub mod Cases
 pub mod Refused

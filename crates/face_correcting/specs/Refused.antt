@@ -1,27 +1,12 @@
 -- A refused call changes nothing: where the answer isn't 0, the number behind the place is 0, and every octet of the
 -- buffer stays.
 use Prim.Native.Nat.{ℕ}
-use mathlib.Core.Path.{_≡_, refl}
 use mathlib.Core.Option.{Option}
 use mathlib.Core.List.{List}
-use lib.ListN.{drop, replicate}
-use Rattle.answers.specs.declared.Verdict.{Verdict}
-use Rattle.answers.specs.declared.Verdict.the-variants.{Clear as clear, Refused}
-use Rattle.answers.specs.Verdict.{kept}
 use Rattle.lookup.specs.declared.Which.{Which}
-use Rattle.correcting.specs.Correct.{answered, setAt, setAnswer, setOctets, insertAt, insertAnswer, insertOctets}
+use Rattle.correcting.specs.Correct.{setAt, setAnswer, setOctets, insertAt, insertAnswer, insertOctets}
 use Rattle.correcting.specs.Correct.{deleteAt, deleteAnswer, deleteOctets}
-use Rattle.correcting.specs.declared.Corrected.{Corrected}
-use Rattle.face_correcting.specs.Mending.{correctedNumber, correctedNumbers}
-
--- a call on the buffer d, which leaves the buffer e
-abbrev pub Stays : Corrected → List ℕ → List ℕ → Type 0
-Stays c d e = (correctedNumber c ≡ 0 → ⊥) → (drop 1 (correctedNumbers c) ≡ replicate 1 0) × (e ≡ d)
-
--- every correction is answered by a verdict
-stays : (v : Verdict) (n : ℕ) (d new : List ℕ) → Stays (answered v n) d (kept v d new)
-stays clear n d new z = absurd (z refl)
-stays (Refused r) n d new z = (refl, refl)
+use Rattle.face_reading.specs.Refused.{Stays, stays}
 
 module _ (d : List ℕ) (len : ℕ) where
   -- a set, and a clear, which offers nothing

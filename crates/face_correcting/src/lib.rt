@@ -1,32 +1,15 @@
 // Correcting, for C programs: the four calls under plain names. The book stands in the first `len` octets of the
 // buffer; a call answers 0 or the number of its refusal, and leaves the refusal's place and the new length in two
 // numbers that are lent for it.
-use correcting::Corrected;
+use face_reading::made_number;
+use face_reading::made_numbers;
 use face_reading::which_of;
 ghost use mathlib.Core.Path.{_≡_};
 ghost use mathlib.Core.Option.{none, some};
 ghost use Rattle.correcting.specs.Correct.{setAnswer, setOctets, insertAnswer, insertOctets, deleteAnswer};
 ghost use Rattle.correcting.specs.Correct.{deleteOctets};
+ghost use Rattle.face_reading.specs.Lent.{madeNumber, madeNumbers};
 ghost use Rattle.face_reading.specs.Looking.{whichOf};
-ghost use Rattle.face_correcting.specs.Mending.{correctedNumber, correctedNumbers};
-
-fn corrected_number(c: Corrected) -> u32
-    ensures { λ r. ⌜ r ≡ correctedNumber c ⌝ }
-{
-    match c {
-        Corrected::Done(_) => 0,
-        Corrected::Refused(r) => r.number,
-    }
-}
-
-fn corrected_numbers(c: Corrected) -> [u64; 2]
-    ensures { λ r. ⌜ r ≡ correctedNumbers c ⌝ }
-{
-    match c {
-        Corrected::Done(length) => [0, length as u64],
-        Corrected::Refused(r) => [r.place as u64, 0],
-    }
-}
 
 #[no_mangle]
 pub extern "C" fn wt_set(
@@ -37,16 +20,16 @@ pub extern "C" fn wt_set(
     value: &[u8],
     out: &mut [u64; 2],
 ) -> u32
-    ensures { λ r. ⌜ (r ≡ correctedNumber
+    ensures { λ r. ⌜ (r ≡ madeNumber
         (setAnswer (now (buf .entry)) len (whichOf number) tag (some (now (value .entry)))))
-        × (now (out .exit) ≡ correctedNumbers
+        × (now (out .exit) ≡ madeNumbers
         (setAnswer (now (buf .entry)) len (whichOf number) tag (some (now (value .entry)))))
         × (now (buf .exit) ≡ setOctets (now (buf .entry)) len (whichOf number) tag (some (now (value .entry)))) ⌝ }
 {
     let which = which_of(number);
     let corrected = correcting::set(buf, len as usize, which, tag, value);
-    *out = corrected_numbers(corrected);
-    corrected_number(corrected)
+    *out = made_numbers(corrected);
+    made_number(corrected)
 }
 
 #[no_mangle]
@@ -57,14 +40,14 @@ pub extern "C" fn wt_clear(
     tag: u32,
     out: &mut [u64; 2],
 ) -> u32
-    ensures { λ r. ⌜ (r ≡ correctedNumber (setAnswer (now (buf .entry)) len (whichOf number) tag none))
-        × (now (out .exit) ≡ correctedNumbers (setAnswer (now (buf .entry)) len (whichOf number) tag none))
+    ensures { λ r. ⌜ (r ≡ madeNumber (setAnswer (now (buf .entry)) len (whichOf number) tag none))
+        × (now (out .exit) ≡ madeNumbers (setAnswer (now (buf .entry)) len (whichOf number) tag none))
         × (now (buf .exit) ≡ setOctets (now (buf .entry)) len (whichOf number) tag none) ⌝ }
 {
     let which = which_of(number);
     let corrected = correcting::clear(buf, len as usize, which, tag);
-    *out = corrected_numbers(corrected);
-    corrected_number(corrected)
+    *out = made_numbers(corrected);
+    made_number(corrected)
 }
 
 // A record before record k.
@@ -76,22 +59,22 @@ pub extern "C" fn wt_insert(
     offered: &[u8],
     out: &mut [u64; 2],
 ) -> u32
-    ensures { λ r. ⌜ (r ≡ correctedNumber (insertAnswer (now (buf .entry)) len k (now (offered .entry))))
-        × (now (out .exit) ≡ correctedNumbers (insertAnswer (now (buf .entry)) len k (now (offered .entry))))
+    ensures { λ r. ⌜ (r ≡ madeNumber (insertAnswer (now (buf .entry)) len k (now (offered .entry))))
+        × (now (out .exit) ≡ madeNumbers (insertAnswer (now (buf .entry)) len k (now (offered .entry))))
         × (now (buf .exit) ≡ insertOctets (now (buf .entry)) len k (now (offered .entry))) ⌝ }
 {
     let corrected = inserting::insert(buf, len as usize, k as usize, offered);
-    *out = corrected_numbers(corrected);
-    corrected_number(corrected)
+    *out = made_numbers(corrected);
+    made_number(corrected)
 }
 
 #[no_mangle]
 pub extern "C" fn wt_delete(buf: &mut [u8], len: u64, k: u64, out: &mut [u64; 2]) -> u32
-    ensures { λ r. ⌜ (r ≡ correctedNumber (deleteAnswer (now (buf .entry)) len k))
-        × (now (out .exit) ≡ correctedNumbers (deleteAnswer (now (buf .entry)) len k))
+    ensures { λ r. ⌜ (r ≡ madeNumber (deleteAnswer (now (buf .entry)) len k))
+        × (now (out .exit) ≡ madeNumbers (deleteAnswer (now (buf .entry)) len k))
         × (now (buf .exit) ≡ deleteOctets (now (buf .entry)) len k) ⌝ }
 {
     let corrected = inserting::delete(buf, len as usize, k as usize);
-    *out = corrected_numbers(corrected);
-    corrected_number(corrected)
+    *out = made_numbers(corrected);
+    made_number(corrected)
 }

@@ -4,6 +4,8 @@ use mathlib.Core.Path.{_≡_}
 use mathlib.Core.List.{List, [], _∷_}
 use borrow.Author.Tests.{eq-eqb, ne-eqb}
 use Rattle.answers.specs.declared.Refusal.{Refusal}
+use Rattle.answers.specs.declared.Made.{Made}
+use Rattle.answers.specs.declared.Made.the-variants as made
 use Rattle.table.specs.declared.Columns.{Columns}
 use Rattle.book.specs.Judged.{judgedOf}
 use Rattle.book.specs.declared.Judgement.{Judgement}
@@ -12,10 +14,18 @@ use Rattle.book.specs.declared.Judged.the-variants as judged
 use Rattle.lookup.specs.declared.Which.the-variants.{Header, Number}
 use Rattle.lookup.specs.declared.Looked.{Looked}
 use Rattle.lookup.specs.declared.Looked.the-variants as looked
-use Rattle.face_reading.specs.Lent.{placeAlone}
+use Rattle.face_reading.specs.Lent.{placeAlone, madeNumbers}
 use Rattle.face_reading.specs.Judging.{judgedNumber, judgedBy, judgedNumbers, tableOf, columnsNumbers}
 use Rattle.face_reading.specs.Judging.{columnsLeft}
 use Rattle.face_reading.specs.Looking.{whichOf, lookedNumbers}
+
+-- ---- of calls that make something
+
+pub made-done : (m : Made) (n : ℕ) → m ≡ made.Done n → _≡_ {A = List ℕ} (0 ∷ n ∷ []) (madeNumbers m)
+made-done m n q = rw q
+
+pub made-refused : (m : Made) (r : Refusal) → m ≡ made.Refused r → placeAlone 1 r ≡ madeNumbers m
+made-refused m r q = rw q
 
 -- ---- judging
 

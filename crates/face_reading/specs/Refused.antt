@@ -4,13 +4,28 @@ use Prim.Native.Nat.{ℕ}
 use mathlib.Core.Path.{_≡_, refl}
 use mathlib.Core.List.{List}
 use lib.ListN.{drop, replicate}
+use Rattle.answers.specs.declared.Verdict.{Verdict}
+use Rattle.answers.specs.declared.Verdict.the-variants.{Clear as clear, Refused}
+use Rattle.answers.specs.Verdict.{kept}
+use Rattle.answers.specs.declared.Made.{Made}
+use Rattle.answers.specs.Made.{answered}
 use Rattle.book.specs.declared.Judgement.{Judgement}
 use Rattle.book.specs.declared.Judged.{Judged}
 use Rattle.book.specs.declared.Judged.the-variants as judged
 use Rattle.lookup.specs.declared.Looked.{Looked}
 use Rattle.lookup.specs.declared.Looked.the-variants as looked
+use Rattle.face_reading.specs.Lent.{madeNumber, madeNumbers}
 use Rattle.face_reading.specs.Judging.{judgedNumber, judgedBy, judgedNumbers, columnsNumbers, columnsLeft}
 use Rattle.face_reading.specs.Looking.{lookedNumber, lookedNumbers}
+
+-- a call on the buffer d, which leaves the buffer e
+abbrev pub Stays : Made → List ℕ → List ℕ → Type 0
+Stays m d e = (madeNumber m ≡ 0 → ⊥) → (drop 1 (madeNumbers m) ≡ replicate 1 0) × (e ≡ d)
+
+-- what makes something is answered by a verdict
+pub stays : (v : Verdict) (n : ℕ) (d new : List ℕ) → Stays (answered v n) d (kept v d new)
+stays clear n d new z = absurd (z refl)
+stays (Refused r) n d new z = (refl, refl)
 
 judged-stays : (v : Judged) (heads cols : ℕ) → (judgedNumber v ≡ 0 → ⊥) → drop 1 (judgedBy v heads cols) ≡ replicate 6 0
 judged-stays (judged.Good l c h f) heads cols z = absurd (z refl)

@@ -15,7 +15,7 @@ pub fn which_of(number: u64) -> Which
     Which::Number(number as usize)
 }
 
-fn looked_number(l: Looked) -> u32
+pub fn looked_number(l: Looked) -> u32
     ensures { λ r. ⌜ r ≡ lookedNumber l ⌝ }
 {
     match l {
@@ -25,7 +25,7 @@ fn looked_number(l: Looked) -> u32
     }
 }
 
-fn looked_numbers(l: Looked) -> [u64; 4]
+pub fn looked_numbers(l: Looked) -> [u64; 4]
     ensures { λ r. ⌜ r ≡ lookedNumbers l ⌝ }
 {
     match l {

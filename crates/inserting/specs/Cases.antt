@@ -40,7 +40,7 @@ use Rattle.editing.specs.Fits.{recordsPut, records-fit}
 use Rattle.editing.specs.Stands.{place-next, place-stands, number-stands}
 use Rattle.correcting.specs.Correct.{bookAt, roomFor, offeredAt, insertBook, insertAt, insertAnswer, insertOctets}
 use Rattle.correcting.specs.Correct.{deleteBook, deleteAt, deleteAnswer, deleteOctets}
-use Rattle.correcting.specs.declared.Corrected.the-variants as corrected
+use Rattle.answers.specs.declared.Made.the-variants as made
 use Rattle.inserting.specs.declared.Gap.{Gap}
 
 -- ---- what is decided before anything is written
@@ -313,7 +313,7 @@ delete-verdict d len k h =
 -- ---- insert
 
 module _ (d new : List ℕ) (len k : ℕ) where
-  pub insert-short : length d < len → (r : Refusal) → r ≡ record { number = outOfTurn; place = 0 } → corrected.Refused r ≡ insertAnswer d len k new
+  pub insert-short : length d < len → (r : Refusal) → r ≡ record { number = outOfTurn; place = 0 } → made.Refused r ≡ insertAnswer d len k new
   unfolding insertAnswer insertAt bookAt
   insert-short h r q = rw (lt-leb len (length d) h, q)
 
@@ -328,7 +328,7 @@ module _ (d new : List ℕ) (len k : ℕ) where
     verdict-was : insertAt d len k new ≡ g .verdict
     verdict-was = insert-verdict d new len k h ∙ ap (λ (x : Gap). x .verdict) (sym gap-is)
 
-    pub insert-refused : (r : Refusal) → g .verdict ≡ Refused r → corrected.Refused r ≡ insertAnswer d len k new
+    pub insert-refused : (r : Refusal) → g .verdict ≡ Refused r → made.Refused r ≡ insertAnswer d len k new
     unfolding insertAnswer
     insert-refused r z = rw (verdict-was, z)
 
@@ -357,7 +357,7 @@ module _ (d new : List ℕ) (len k : ℕ) where
           sums : (x : ℕ) → x ≤ len → len + length new ≤ length d → x + length new + (len - x) ≤ length d
           sums x h i = omega arith
 
-      pub insert-done : corrected.Done (len + length new) ≡ insertAnswer d len k new
+      pub insert-done : made.Done (len + length new) ≡ insertAnswer d len k new
       unfolding insertAnswer insertBook
       insert-done =
           let i = insert-in _ _ _ k new _ (both .1) in
@@ -370,7 +370,7 @@ module _ (d new : List ℕ) (len k : ℕ) where
 -- ---- delete
 
 module _ (d : List ℕ) (len k : ℕ) where
-  pub delete-short : length d < len → (r : Refusal) → r ≡ record { number = outOfTurn; place = 0 } → corrected.Refused r ≡ deleteAnswer d len k
+  pub delete-short : length d < len → (r : Refusal) → r ≡ record { number = outOfTurn; place = 0 } → made.Refused r ≡ deleteAnswer d len k
   unfolding deleteAnswer deleteAt bookAt
   delete-short h r q = rw (lt-leb len (length d) h, q)
 
@@ -385,7 +385,7 @@ module _ (d : List ℕ) (len k : ℕ) where
     delete-was : deleteAt d len k ≡ g .verdict
     delete-was = delete-verdict d len k h ∙ ap (λ (x : Gap). x .verdict) (sym gap-was)
 
-    pub delete-refused : (r : Refusal) → g .verdict ≡ Refused r → corrected.Refused r ≡ deleteAnswer d len k
+    pub delete-refused : (r : Refusal) → g .verdict ≡ Refused r → made.Refused r ≡ deleteAnswer d len k
     unfolding deleteAnswer
     delete-refused r z = rw (delete-was, z)
 
@@ -414,7 +414,7 @@ module _ (d : List ℕ) (len k : ℕ) where
           let l = span in
           rw (whole .2) (x, omega arith, omega arith, h, omega arith)
 
-      pub delete-done : corrected.Done (g .place + (len - g .end)) ≡ deleteAnswer d len k
+      pub delete-done : made.Done (g .place + (len - g .end)) ≡ deleteAnswer d len k
       unfolding deleteAnswer deleteBook
       delete-done =
           let s = place-stands (take len d) (whole .0) k (below (whole .1)) in

@@ -3,7 +3,7 @@ use answers::Refusal;
 use answers::Verdict;
 use answers::refuse;
 use book::Judged;
-use correcting::Corrected;
+use answers::Made;
 use table::Columns;
 ghost use mathlib.Core.Path.{_≡_};
 ghost use mathlib.Core.List.{[]};
@@ -148,11 +148,11 @@ fn plan_delete(book: &[u8], k: usize) -> Gap
 }
 
 // The offered record is put in before record k.
-pub fn insert(buf: &mut [u8], len: usize, k: usize, offered: &[u8]) -> Corrected
+pub fn insert(buf: &mut [u8], len: usize, k: usize, offered: &[u8]) -> Made
     ensures { λ r. ⌜ (r ≡ insertAnswer (now (buf .entry)) len k (now (offered .entry))) × (now (buf .exit) ≡ insertOctets (now (buf .entry)) len k (now (offered .entry))) ⌝ }
 {
     if buf.len() < len {
-        return Corrected::Refused(Refusal {
+        return Made::Refused(Refusal {
             number: answers::OUT_OF_TURN,
             place: 0,
         });
@@ -160,18 +160,18 @@ pub fn insert(buf: &mut [u8], len: usize, k: usize, offered: &[u8]) -> Corrected
     let gap = plan_insert(&buf[0..len], buf.len(), k, offered);
     let verdict = gap.verdict;
     if let Verdict::Refused(r) = verdict {
-        return Corrected::Refused(r);
+        return Made::Refused(r);
     }
     editing::put_records(buf, len, gap.place, gap.end, offered, gap.count);
-    Corrected::Done(len + offered.len())
+    Made::Done(len + offered.len())
 }
 
 // Record k is taken out.
-pub fn delete(buf: &mut [u8], len: usize, k: usize) -> Corrected
+pub fn delete(buf: &mut [u8], len: usize, k: usize) -> Made
     ensures { λ r. ⌜ (r ≡ deleteAnswer (now (buf .entry)) len k) × (now (buf .exit) ≡ deleteOctets (now (buf .entry)) len k) ⌝ }
 {
     if buf.len() < len {
-        return Corrected::Refused(Refusal {
+        return Made::Refused(Refusal {
             number: answers::OUT_OF_TURN,
             place: 0,
         });
@@ -179,9 +179,9 @@ pub fn delete(buf: &mut [u8], len: usize, k: usize) -> Corrected
     let gap = plan_delete(&buf[0..len], k);
     let verdict = gap.verdict;
     if let Verdict::Refused(r) = verdict {
-        return Corrected::Refused(r);
+        return Made::Refused(r);
     }
     let nothing = [0u8; 1];
     editing::put_records(buf, len, gap.place, gap.end, &nothing[0..0], gap.count);
-    Corrected::Done(gap.place + (len - gap.end))
+    Made::Done(gap.place + (len - gap.end))
 }
