@@ -1,5 +1,6 @@
 /* Windtrellis: offline address books (OAB version 4 full details files), judged, looked up, written and corrected.
- * Every call below is proved to meet its contract (crates/face_reading, face_correcting, face_writing);
+ * Every call below is proved to meet its contract (crates/face_reading, face_index, face_correcting,
+ * face_writing);
  * docs/CONTRACTS.md says each in a sentence.
  *
  * Answers. A call takes any octets and any numbers, ends, and answers WT_DONE or the number of its refusal. What there
@@ -35,7 +36,7 @@ extern "C" {
 
 /* 10,000 for each version, 100 for each change that adds calls, 1 for each other one. wt_version answers that of the
  * library which the program runs with. */
-#define WT_VERSION 10002u
+#define WT_VERSION 10100u
 uint32_t wt_version(void);
 
 /* Answers. */
@@ -59,13 +60,19 @@ enum {
     WT_OUT_OF_TURN = 15,   /* out of turn; no such record or column; a stated length over the buffer */
     WT_BREAKS_RULE = 16,   /* the result would break a rule on keys, count or length */
     WT_NO_ROOM = 17,       /* the buffer is too short for the result */
-    WT_BREAKS_FORM = 18    /* an offered value or record breaks its form */
+    WT_BREAKS_FORM = 18,   /* an offered value or record breaks its form */
+    WT_WRONG_INDEX = 19    /* an index that isn't the book's, or whose entry for the record lies outside it */
 };
 
 /* House limits. */
 #define WT_MOST_OCTETS 16777216u
 #define WT_MOST_COLUMNS 128u
 #define WT_MOST_RECORDS 65535u
+
+/* Calls that make something answer its length. */
+typedef struct {
+    uint64_t place, length;
+} wt_length;
 
 /* The header record, where a record is named; address records are named by their numbers from 0. */
 #define WT_HEADER UINT64_MAX
@@ -99,12 +106,37 @@ uint32_t wt_lookup(const uint8_t *book, size_t octets, uint64_t record, uint32_t
 /* The serial of a book whose octets from 12 on are these. It answers the serial itself and refuses nothing. */
 uint32_t wt_serial(const uint8_t *octets, size_t count);
 
+/* ---- a saved index: the book's count of address records, its length, its serial and the offset of the starts, four
+ * octets each, then the start of each address record in WT_INDEX_ENTRY octets; least octets first. With it one record is
+ * looked up without reading the others. */
+#define WT_INDEX_FRONT 16u
+#define WT_INDEX_ENTRY 3u
+
+/* The index of a book, whose length comes back; octets of the buffer behind it stay. Refusals: the book's own, then 17.
+ * Room: WT_INDEX_FRONT + WT_INDEX_ENTRY * count is enough, and what it takes. */
+uint32_t wt_index(const uint8_t *WT_RESTRICT book, size_t octets, uint8_t *WT_RESTRICT index, size_t room,
+    wt_length *WT_RESTRICT out);
+
+/* The next two read the book's header, its metadata and the index; the lookup reads record k, too, and nothing else.
+ * Refusals: 1, 2, 3, 13 for the count, 2, 5, 6, 7 and 4, as in wt_judge; 19 at 0 where the index's offset isn't 16, or
+ * its count, its length, its serial or its own size isn't that of the book; 15 for a record or a column that isn't
+ * there (the header record isn't offered here); 19 at 0 where the entry isn't below the book's length; and in the lookup
+ * the record's own, 2, 8, 9, 10, 11 and 12.
+ *
+ * In a good book and with the index that wt_index makes of it, the entry is the record's place and the lookup is
+ * wt_lookup. With any other pair each call still ends, and what it hands back lies in the book; whose value that is
+ * isn't promised. So an index is made anew when its book has changed. */
+typedef struct {
+    uint64_t place, start;
+} wt_start;
+uint32_t wt_index_entry(const uint8_t *book, size_t octets, const uint8_t *index, size_t index_octets, uint64_t k,
+    wt_start *WT_RESTRICT out);
+uint32_t wt_lookup_indexed(const uint8_t *book, size_t octets, const uint8_t *index, size_t index_octets, uint64_t k,
+    uint32_t tag, wt_found *WT_RESTRICT out);
+
 /* ---- correcting: a book of `length` octets stands at the front of a buffer of `octets`. Done: the struct has the new
  * length; octets from the new length up to the old are zero, those behind both stay. Refusals: 15 for a length over the
  * buffer, the book's own, then 15, 18, 16, 17. */
-typedef struct {
-    uint64_t place, length;
-} wt_length;
 
 /* The value is one encoding of the column's form, to its last octet (else 18): a string with its 00, a list with its
  * count. 15: no such record or column. 16: the result would be too long. Room: length + value_octets is enough. */

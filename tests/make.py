@@ -19,7 +19,7 @@ from pathlib import Path
 
 sys.dont_write_bytecode = True
 
-from model import books, oab
+from model import books, indexes, oab
 
 TOP = Path(__file__).resolve().parent.parent
 HEADER_RECORD = 0xFFFFFFFF      # stands for the header record where a record is named
@@ -545,6 +545,163 @@ def make_lookup():
         ask(book, 0, 0x39FE001F)
         ask(book, HEADER_RECORD, 0x6800001F)
     print('lookup_cases:', dict(sorted(answers.items())), file=sys.stderr)
+    stream.save(1_000_000, 1_000_000)
+
+
+# ---------------------------------------------------------------- index_cases
+
+class IndexStream(Stream):
+    """A saved index, asked of the model as the cases are added.
+
+    Payload, first octet:
+      0 a book                                   "book"
+      1 octets, lent as its index                "index"
+      2 4 room: the book's index, made in as     "made LENGTH SERIAL" or "refused N P SERIAL", the serial of
+        many octets A5                           all of them
+      3 4 k: the entry of record k               "at START" or "refused N P"
+      4 4 k, 4 tag: a value through the index    "at START END HEX", "absent" or "refused N P"
+    """
+
+    def __init__(self):
+        super().__init__('index_cases')
+        self.book = self.index = b''
+        self.answers = Counter()
+
+    def lend(self, book, index):
+        if book != self.book:
+            self.book = book
+            self.add(b'\0' + book, 'book')
+        if index != self.index:
+            self.index = index
+            self.add(b'\1' + index, 'index')
+
+    def count(self, call, answer):
+        self.answers[f'{call} {answer[0]}' + (f' {answer[1]}' if answer[0] == 'refused' else '')] += 1
+
+    def make(self, book, room):
+        self.lend(book, self.index)
+        answer = oab.make_index(book, room)
+        made = answer[1] if answer[0] == 'made' else b''
+        after = made + b'\xA5' * (room - len(made))
+        words = ('made', len(made)) if made else answer
+        self.count('make', answer)
+        self.add(b'\2' + oab.four(room), ' '.join(str(word) for word in words + (oab.serial(after),)))
+        return answer
+
+    def entry(self, book, index, k):
+        self.lend(book, index)
+        answer = oab.index_entry(book, index, k)
+        self.count('entry', answer)
+        self.add(b'\3' + oab.four(k), ' '.join(str(word) for word in answer))
+        return answer
+
+    def ask(self, book, index, k, tag):
+        self.lend(book, index)
+        answer = oab.lookup_indexed(book, index, k, tag)
+        line = ' '.join(str(word) for word in answer)
+        if answer[0] == 'at':
+            line += ' ' + hex_of(book[answer[1]:answer[2]])
+        self.count('look', answer)
+        self.add(b'\4' + oab.four(k) + oab.four(tag), line)
+        return answer
+
+
+def index_own(stream, rng, table):
+    """A book and its own index: made where there is room, and every lookup is the full one."""
+    book = books.octets_of(table)
+    index = indexes.own(book)
+    for room in (len(index), len(index) - 1, len(index) + 7, 0, rng.randrange(len(index))):
+        assert stream.make(book, room)[0] == ('made' if len(index) <= room else 'refused')
+    tags = [tag for tag, _ in table[1]]
+    others = [0, 0xFFFFFFFF] + [tag ^ 0x10000 for tag in tags[:2]] + [tag for tag, _ in table[0]][:2]
+    for k in list(range(len(table[3]))) + [len(table[3]), 65_535, 0xFFFFFFFF]:
+        assert stream.entry(book, index, k)[0] == ('at' if k < len(table[3]) else 'refused')
+        for tag in rng.sample(tags, min(4, len(tags))) + others:
+            assert stream.ask(book, index, k, tag) == oab.lookup(book, k, tag)
+
+
+def index_wrong(stream, rng, table, other):
+    """Every wrong index, before 15; entries outside the book, behind 15; entries of other records."""
+    book = books.octets_of(table)
+    index, count = indexes.own(book), len(table[3])
+    tags = [tag for tag, _ in table[1]]
+    tag = tags[0] if tags else 0
+    for bad in indexes.wrong(book, other):
+        for k, asked in ((0, tag), (count, 0)):
+            assert stream.ask(book, bad, k, asked) == ('refused', 19, 0)
+        assert stream.entry(book, bad, rng.choice((0, count))) == ('refused', 19, 0)
+    for k in range(count):
+        for start in indexes.outside(book):
+            bad = indexes.with_entry(index, k, start)
+            assert stream.entry(book, bad, k) == ('refused', 19, 0)
+            assert stream.ask(book, bad, k, tag) == ('refused', 19 if tags else 15, 0)
+            assert stream.ask(book, bad, k, 0) == ('refused', 15, 0)
+            assert stream.ask(book, bad, count, tag) == ('refused', 15, 0)
+        for start in indexes.near_end(book):
+            bad = indexes.with_entry(index, k, start)
+            assert stream.entry(book, bad, k) == ('at', start)
+            assert stream.ask(book, bad, k, tag) == (('refused', 2, start) if tags else ('refused', 15, 0))
+        for start in rng.sample(range(len(book)), 4):                       # inside: whatever stands there
+            bad = indexes.with_entry(index, k, start)
+            stream.entry(book, bad, k)
+            for asked in tags[:3]:
+                stream.ask(book, bad, k, asked)
+
+
+def index_spoilt(stream, rng, table):
+    """A record spoilt under a right index: its own refusal, and the other records as they were."""
+    index = indexes.own(books.octets_of(table))
+    tags = [tag for tag, _ in table[1]]
+    for k in range(len(table[3])):
+        for book, refusal in indexes.spoilt(table, k):
+            assert stream.ask(book, index, k, rng.choice(tags)) == ('refused',) + refusal
+            assert stream.ask(book, index, k, 0) == ('refused', 15, 0)
+            for i in range(len(table[3])):
+                if i != k:
+                    asked = rng.choice(tags)
+                    assert stream.ask(book, index, i, asked) == oab.lookup(books.octets_of(table), i, asked)
+
+
+def index_tables(stream, rng):
+    """Damaged books beside the index of the good one: the table refusals come first, the maker's are the book's."""
+    for fault in books.FAULTS:
+        for _ in range(6):
+            table = books.some_table(rng, most=4)
+            made = books.faulty(table, rng, fault)
+            if made is None:
+                continue
+            good, (book, refusal) = books.octets_of(table), made
+            assert stream.make(book, rng.choice((0, 65_000))) == ('refused',) + refusal
+            tag = rng.choice([tag for tag, _ in table[1]] + [0])
+            for index in (indexes.own(good), indexes.own(good)[:-1]):
+                for k in (0, len(table[3])):
+                    stream.ask(book, index, k, tag)
+                    stream.entry(book, index, k)
+    for book in books.truncations(books.small_book()):
+        stream.ask(book, indexes.own(books.small_book()), 0, 0x39FE001F)
+
+
+def make_index():
+    stream = IndexStream()
+    rng = random.Random(404)
+    small, sample = (oab.table_of(book) for book in (books.small_book(), books.sample_book()))
+    for table in (small, sample, books.MANAGER_TABLE):
+        index_own(stream, rng, table)
+        index_wrong(stream, rng, table, books.sample_book() if table is small else books.small_book())
+        index_spoilt(stream, rng, table)
+    for _ in range(60):
+        table = books.some_table(rng, records=rng.choice((1, 2, 3, 5)), most=4)
+        index_own(stream, rng, table)
+    for _ in range(8):
+        table = books.some_table(rng, address=rng.choice((0, 1, 3, 9)), records=rng.choice((1, 2)), most=3)
+        index_wrong(stream, rng, table, books.small_book())
+    for _ in range(25):
+        table = books.some_table(rng, address=rng.choice((1, 2, 5, 8, 9)), records=rng.choice((1, 2, 3)), most=3)
+        index_spoilt(stream, rng, table)
+    for table in wide_tables(rng, 1):
+        index_own(stream, rng, table)
+    index_tables(stream, rng)
+    print('index_cases:', dict(sorted(stream.answers.items())), file=sys.stderr)
     stream.save(1_000_000, 1_000_000)
 
 
@@ -1283,5 +1440,6 @@ if __name__ == '__main__':
     make_ground()
     make_judge()
     make_lookup()
+    make_index()
     make_writing()
     make_correcting()

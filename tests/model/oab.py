@@ -285,8 +285,8 @@ def read_record(book, at, columns, keys_bind):
     return Record(at, size, stretches)
 
 
-def read_book(book):
-    """The whole book in the published order; raises the refusal."""
+def read_tables(book):
+    """The header and the metadata in the published order: the count, both tables and where they end."""
     if len(book) > LIMIT:
         raise Refusal(1, 0)
     if len(book) < HEADER:
@@ -301,6 +301,12 @@ def read_book(book):
     address_columns, at = read_table(book, at)
     if size != 12 + 8 * (len(header_columns) + len(address_columns)):
         raise Refusal(4, 12)
+    return count, header_columns, address_columns, at
+
+
+def read_book(book):
+    """The whole book in the published order; raises the refusal."""
+    count, header_columns, address_columns, at = read_tables(book)
     if at == len(book):                        # decision 3: a missing record comes before 2
         raise Refusal(13, 8)
     header_record = read_record(book, at, header_columns, keys_bind=False)
@@ -350,6 +356,65 @@ def lookup(book, record, tag):
     stretch = where.stretches[column]
     return ('absent',) if stretch is None else ('at',) + stretch
 
+
+# ---------------------------------------------------------------- a saved index (request 103, decisions 45 to 47)
+
+INDEX_OFFSET = 16         # where the starts begin: behind four fields of four octets
+INDEX_WIDTH = 3           # octets of a start
+
+
+def make_index(book, room):
+    """The octets of a good book's index: count, length, serial and offset, then each start; 17 comes last."""
+    try:
+        got = read_book(book)
+    except Refusal as refusal:
+        return refusal.answer()
+    index = four(len(got.records)) + four(len(book)) + four(word(book, 4)) + four(INDEX_OFFSET)
+    index += b''.join(record.place.to_bytes(INDEX_WIDTH, 'little') for record in got.records)
+    return ('made', index) if len(index) <= room else ('refused', 17, 0)
+
+
+def beside(book, index, k):
+    """The table refusals, 19 for an index that isn't the book's, 15 for the record: the columns, and the entry."""
+    count, _, columns, _ = read_tables(book)
+    if len(index) < INDEX_OFFSET:
+        raise Refusal(19, 0)
+    fields = [word(index, at) for at in (0, 4, 8, 12)]
+    if fields != [count, len(book), word(book, 4), INDEX_OFFSET]:
+        raise Refusal(19, 0)
+    if len(index) != INDEX_OFFSET + INDEX_WIDTH * count:
+        raise Refusal(19, 0)
+    if k >= count:
+        raise Refusal(15, 0)
+    return columns, word(index, INDEX_OFFSET + INDEX_WIDTH * k, INDEX_WIDTH)
+
+
+def index_entry(book, index, k):
+    try:
+        _, start = beside(book, index, k)
+        if start >= len(book):
+            raise Refusal(19, 0)
+    except Refusal as refusal:
+        return refusal.answer()
+    return ('at', start)
+
+
+def lookup_indexed(book, index, k, tag):
+    """15 for the column, 19 for an entry outside the book, the record's own; then the value."""
+    try:
+        columns, start = beside(book, index, k)
+        tags = [column_tag for column_tag, _ in columns]
+        if tag not in tags:
+            raise Refusal(15, 0)
+        if start >= len(book):
+            raise Refusal(19, 0)
+        stretch = read_record(book, start, columns, keys_bind=True).stretches[tags.index(tag)]
+    except Refusal as refusal:
+        return refusal.answer()
+    return ('absent',) if stretch is None else ('at',) + stretch
+
+
+# ---------------------------------------------------------------- the listing
 
 def listing(book):
     """What the listing program prints."""

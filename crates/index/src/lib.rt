@@ -157,13 +157,13 @@ pub fn entry_at(book: &[u8], index: &[u8], k: usize) -> Placed
         return Placed::Refused(r);
     }
     let at = start_at(index, STARTS_OFFSET, ENTRY_WIDTH, k);
-    if book.len() <= at {
-        return Placed::Refused(Refusal {
-            number: answers::WRONG_INDEX,
-            place: 0,
-        });
+    if at < book.len() {
+        return Placed::At(at);
     }
-    Placed::At(at)
+    Placed::Refused(Refusal {
+        number: answers::WRONG_INDEX,
+        place: 0,
+    })
 }
 
 // ---- the lookup
