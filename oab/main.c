@@ -26,11 +26,19 @@ static const struct entry {
         run_columns, 1, 1, OUT | QUIET | JSON | NAMES },
     { "show", "BOOK RECORD..",
         "All values of each record: record, tag, type and value, parted by tabs, a line a value or element.",
-        run_show, 2, SIZE_MAX, OUT | QUIET | JSON | NAMES },
+        run_show, 2, SIZE_MAX, OUT | QUIET | JSON | NAMES | INDEX },
     { "get", "BOOK RECORD TAG",
         "The value of a record under a whole tag, a line a value or element. Absent: nothing on standard output.\n"
         "--raw writes the octets of its encoding instead.",
-        run_get, 3, 3, OUT | QUIET | JSON | RAW | EXIT },
+        run_get, 3, 3, OUT | QUIET | JSON | RAW | EXIT | INDEX },
+    { "find", "BOOK TEXT",
+        "Every value of an address record that holds the text: record, tag and value, parted by tabs, a line a value\n"
+        "or element. Exit status 1 where there is none. The text is spelled as values of text are.",
+        run_find, 2, 2, OUT | QUIET | JSON | NAMES | TAG | ALIKE },
+    { "index", "BOOK",
+        "The book's index, saved as BOOK.index or where -o says. With it get and show look a record up without reading\n"
+        "the others. It is made anew when the book has changed: an index of another book is refused.",
+        run_index, 1, 1, OUT | QUIET | DRY },
     { "set", "BOOK RECORD TAG VALUE..",
         "Set a value; a list takes a word an element. What get prints, set takes back as the same octets.\n"
         "--raw reads the octets of its encoding from standard input instead.",
@@ -59,6 +67,9 @@ static const struct option {
     { 'n', "-n", "say what would be done, and save nothing", DRY },
     { 'q', "-q", "say only what is wrong", QUIET },
     { 'e', "-e", "exit status 3 where the value is absent", EXIT },
+    { 'i', "-i", "A to Z are read as a to z", ALIKE },
+    { 't', "-t TAG", "values under this tag alone", TAG },
+    { 0, "--index FILE", "look up through the index that is saved in FILE", INDEX },
     { 0, "--json", "one object a line", JSON },
     { 0, "--names", "tags by the names of MS-OXOAB's tables, where they have one", NAMES },
     { 0, "--raw", "the octets of the value's encoding", RAW },
@@ -73,8 +84,8 @@ static void describe(FILE *to, const struct entry *e)
     size_t i;
     fprintf(to, "usage: oab %s [OPTION..] %s\n\n%s\n\n", e->name, e->takes, e->says);
     for (i = 0; i < OPTIONS; i++)
-        if (e->options & options[i].bit) fprintf(to, "  %-8s  %s\n", options[i].word, options[i].says);
-    if (e->options & DRY)
+        if (e->options & options[i].bit) fprintf(to, "  %-12s  %s\n", options[i].word, options[i].says);
+    if (e->options & DRY && e->run != run_index)
         fputs("\nThe book is corrected where it stands: a new file beside it is synced and renamed over it. A refusal\n"
               "leaves it as it is.\n", to);
     fputs("\nRECORD is 'header' or a number from 0, TAG eight hex digits or a name such as DisplayName. Values:\n"
@@ -112,15 +123,22 @@ static unsigned flags_in(const char *word)
     if (strcmp(word, "--help") == 0) return HELP;
     if (strcmp(word, "--version") == 0) return VERSION;
     for (i = 0; i < OPTIONS; i++)
-        if (options[i].bit != OUT && strcmp(options[i].word, word) == 0) return options[i].bit;
+        if (!strchr(options[i].word, ' ') && strcmp(options[i].word, word) == 0) return options[i].bit;
     for (word++; *word; word++) {
         bit = *word == 'h' ? HELP : 0;
         for (i = 0; i < OPTIONS; i++)
-            if (options[i].bit != OUT && options[i].letter == *word) bit = options[i].bit;
+            if (!strchr(options[i].word, ' ') && options[i].letter == *word) bit = options[i].bit;
         if (!bit) return 0;
         bits |= bit;
     }
     return bits;
+}
+
+/* Options that the next word belongs to: where it is kept, and their bit. */
+static const char **taken_by(struct command *c, const char *word, unsigned *bit)
+{
+    *bit = strcmp(word, "-o") == 0 ? OUT : strcmp(word, "-t") == 0 ? TAG : strcmp(word, "--index") == 0 ? INDEX : 0;
+    return *bit == OUT ? &c->out : *bit == TAG ? &c->tag : *bit == INDEX ? &c->index : NULL;
 }
 
 /* Options are taken out of the words, up to --. */
@@ -129,15 +147,16 @@ static int take_options(struct command *c, int argc, char **argv)
     int i, data = 0;
     for (i = 1; i < argc; i++) {
         unsigned bits;
+        const char **word;
         if (data || argv[i][0] != '-' || !argv[i][1]) {
             c->words[c->count++] = argv[i];
         } else if (strcmp(argv[i], "--") == 0) {
             data = 1;
-        } else if (strcmp(argv[i], "-o") == 0) {
-            if (c->out) return fail("-o", "is given twice");
-            if (++i == argc) return fail("-o", "the file is missing");
-            c->out = argv[i];
-            c->options |= OUT;
+        } else if ((word = taken_by(c, argv[i], &bits)) != NULL) {
+            if (*word) return fail(argv[i], "is given twice");
+            if (++i == argc) return fail(argv[i - 1], "the %s is missing", bits == TAG ? "tag" : "file");
+            *word = argv[i];
+            c->options |= bits;
         } else if ((bits = flags_in(argv[i])) != 0) {
             c->options |= bits;
         } else {

@@ -37,3 +37,8 @@ void drop(struct octets *o)
     o->at = NULL;
     o->length = o->room = 0;
 }
+
+uint32_t number_at(const uint8_t *s)
+{
+    return s[0] | (uint32_t)s[1] << 8 | (uint32_t)s[2] << 16 | (uint32_t)s[3] << 24;
+}

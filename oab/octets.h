@@ -15,4 +15,7 @@ int grow(struct octets *o, size_t more);
 int add(struct octets *o, const void *from, size_t n);
 void drop(struct octets *o);
 
+/* A number of four octets, the least first. */
+uint32_t number_at(const uint8_t *s);
+
 #endif

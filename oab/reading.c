@@ -1,4 +1,4 @@
-/* The commands that read: check, list, columns, show, get, extract. */
+/* The commands that read a book as it stands: check, list, columns, extract. Those that look values up: looking.c. */
 #include "commands.h"
 #include "files.h"
 #include "saving.h"
@@ -23,13 +23,7 @@ static int read_book(const char *name, struct octets *book, wt_judged *judged)
     return answer == WT_DONE ? DONE : refuse(name, answer, judged->place, wt_words(answer));
 }
 
-static uint32_t number_at(const uint8_t *s)
-{
-    return s[0] | (uint32_t)s[1] << 8 | (uint32_t)s[2] << 16 | (uint32_t)s[3] << 24;
-}
-
-/* Lines on a terminal are progress enough. */
-static void show_progress(const struct command *c, uint64_t done, uint64_t all, const char *things)
+void show_progress(const struct command *c, uint64_t done, uint64_t all, const char *things)
 {
     if (c->to != stdout || !isatty(1)) progress(done, all, things);
 }
@@ -135,7 +129,7 @@ int run_list(const struct command *c)
 
 /* ---- columns */
 
-static void print_tag(const struct command *c, uint32_t tag)
+void print_tag(const struct command *c, uint32_t tag)
 {
     const char *name = tag_name(tag);
     if (c->options & JSON) {
@@ -173,98 +167,6 @@ int run_columns(const struct command *c)
         if (answer != WT_DONE) result = refuse(c->words[0], answer, counted.place, wt_words(answer));
         else
             for (i = 0; i < counted.count; i++) print_column(c, (int)address, i, tags[i], flags[i]);
-    }
-    drop(&book);
-    return result;
-}
-
-/* ---- show and get */
-
-static void print_found(const struct command *c, uint64_t record, uint32_t tag, const uint8_t *s, size_t n, int fields)
-{
-    char front[128] = "", number[24] = "header"; /* the longest name has 54 letters */
-    const char *name = c->options & NAMES ? tag_name(tag) : NULL;
-    if (record != WT_HEADER) snprintf(number, sizeof number, "%" PRIu64, record);
-    if (c->options & JSON) {
-        fprintf(c->to, record == WT_HEADER ? "{\"record\":\"%s\"," : "{\"record\":%s,", number);
-        print_tag(c, tag);
-        fprintf(c->to, ",\"type\":\"%s\",\"value\":", type_words(tag));
-        print_json_value(c->to, tag, s, n);
-        fputs("}\n", c->to);
-        return;
-    }
-    if (fields && name) snprintf(front, sizeof front, "%s\t%s\t%s\t", number, name, type_words(tag));
-    else if (fields) snprintf(front, sizeof front, "%s\t%08" PRIX32 "\t%s\t", number, tag, type_words(tag));
-    print_value(c->to, front, tag, s, n);
-}
-
-/* All values of a record, a lookup a column. `done` of `all` columns are done before it. */
-static int show_record(const struct command *c, const struct octets *book, uint64_t record, uint64_t done, uint64_t all)
-{
-    uint32_t tags[WT_MOST_COLUMNS], flags[WT_MOST_COLUMNS], answer;
-    wt_counted counted = { 0 };
-    wt_found found = { 0 };
-    uint64_t i;
-    answer = wt_columns(book->at, book->length, record != WT_HEADER, tags, flags, &counted);
-    if (answer != WT_DONE) return refuse(c->words[0], answer, counted.place, wt_words(answer));
-    for (i = 0; i < counted.count; i++) {
-        answer = wt_lookup(book->at, book->length, record, tags[i], &found);
-        if (answer != WT_DONE) return refuse(c->words[0], answer, found.place, wt_words(answer));
-        if (found.present)
-            print_found(c, record, tags[i], book->at + found.start, (size_t)(found.end - found.start), 1);
-        show_progress(c, done + i + 1, all, "columns");
-    }
-    return DONE;
-}
-
-/* Every record is looked for before the first one is printed. */
-int run_show(const struct command *c)
-{
-    struct octets book = { 0 };
-    wt_judged j = { 0 };
-    uint64_t *records = calloc(c->count, sizeof *records), done = 0, all = 0;
-    size_t i;
-    int result = records ? DONE : fail(c->name, "there is no memory");
-    for (i = 1; result == DONE && i < c->count; i++) result = word_record(c->words[i], &records[i]);
-    if (result == DONE) result = read_book(c->words[0], &book, &j);
-    for (i = 1; result == DONE && i < c->count; i++) {
-        if (records[i] != WT_HEADER && records[i] >= j.count)
-            result = refuse_missing(c->words[0], book.at, book.length, records[i], 0);
-        all += records[i] == WT_HEADER ? j.header_columns : j.address_columns;
-    }
-    for (i = 1; result == DONE && i < c->count; i++) {
-        result = show_record(c, &book, records[i], done, all);
-        done += records[i] == WT_HEADER ? j.header_columns : j.address_columns;
-    }
-    progress_ends();
-    drop(&book);
-    free(records);
-    return result;
-}
-
-int run_get(const struct command *c)
-{
-    struct octets book = { 0 };
-    wt_found found = { 0 };
-    uint64_t record;
-    uint32_t tag, answer;
-    int result = word_record(c->words[1], &record);
-    if (result == DONE) result = word_tag(c->words[2], &tag);
-    if (result == DONE) result = read_file(c->words[0], &book);
-    if (result == DONE) {
-        answer = wt_lookup(book.at, book.length, record, tag, &found);
-        if (answer == WT_OUT_OF_TURN) {
-            result = refuse_missing(c->words[0], book.at, book.length, record, tag);
-        } else if (answer != WT_DONE) {
-            result = refuse(c->words[0], answer, found.place, wt_words(answer));
-        } else if (!found.present) {
-            note(c->words[0], "absent");
-            result = ABSENT;
-        } else if (c->options & RAW) {
-            result = save(c->out ? c->out : "-", book.at + found.start, (size_t)(found.end - found.start));
-        } else {
-            print_found(c, record, tag, book.at + found.start, (size_t)(found.end - found.start), 0);
-        }
     }
     drop(&book);
     return result;

@@ -125,6 +125,62 @@ void print_json_value(FILE *to, uint32_t tag, const uint8_t *s, size_t n)
     if (is_list(tag)) putc(']', to);
 }
 
+/* ---- values as they stand */
+
+int is_text(uint32_t tag)
+{
+    enum kind kind = kind_of(tag);
+    return kind == OBJECT || kind == NARROW || kind == TEXT;
+}
+
+static size_t item_size(enum kind kind, const uint8_t *s, size_t n)
+{
+    uint64_t k;
+    const uint8_t *end;
+    size_t w;
+    switch (kind) {
+    case NUMBER: return take_number(s, n, &k);
+    case TRUTH: return n ? 1 : 0;
+    case BINARY:
+        w = take_number(s, n, &k);
+        return w == 0 || k > n - w ? 0 : w + (size_t)k;
+    default:
+        end = n ? memchr(s, 0, n) : NULL;
+        return end ? (size_t)(end - s) + 1 : 0;
+    }
+}
+
+size_t value_size(uint32_t tag, const uint8_t *s, size_t n)
+{
+    uint64_t count = 1;
+    size_t at = 0, w;
+    if (is_list(tag) && (at = take_number(s, n, &count)) == 0) return 0;
+    for (; count; count--) {
+        if ((w = item_size(kind_of(tag), s + at, n - at)) == 0) return 0;
+        at += w;
+    }
+    return at;
+}
+
+long next_text(uint32_t tag, const uint8_t *s, size_t n, size_t *at, const uint8_t **text)
+{
+    uint64_t count;
+    size_t w;
+    if (*at == 0 && is_list(tag)) *at = take_number(s, n, &count);
+    if (*at >= n || (w = item_size(TEXT, s + *at, n - *at)) == 0) return -1;
+    *text = s + *at;
+    *at += w;
+    return (long)w - 1;
+}
+
+void print_words(FILE *to, uint32_t tag, const uint8_t *text, size_t n, int json)
+{
+    unsigned how = (json ? IN_JSON : 0) | (kind_of(tag) == TEXT ? 0 : AS_NARROW);
+    if (json) putc('"', to);
+    spell(to, text, n, how);
+    if (json) putc('"', to);
+}
+
 /* ---- words as values */
 
 int read_number(const char *s, uint64_t most, uint64_t *value)

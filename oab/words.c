@@ -35,6 +35,7 @@ const char *wt_words(uint32_t number)
         "the result would break a rule on keys, count or length",
         "there is no room for the result",
         "what is offered breaks its form",
+        "the index isn't the book's, or its entry lies outside the book",
     };
     return number < sizeof words / sizeof *words ? words[number] : "refused";
 }
