@@ -3,17 +3,40 @@
 #include "../include/windtrellis.h"
 #include "books.h"
 #include "corrector.h"
+#include "indexer.h"
 #include "replay.h"
 #include <stdio.h>
 #include <stdlib.h>
 #include <string.h>
 
-static unsigned judged, mended, differ, met[19], answers[19];
+enum { NUMBERS_MET = 20 };
+static unsigned judged, mended, indexed, differ, met[NUMBERS_MET], answers[NUMBERS_MET], looked[NUMBERS_MET];
+static uint8_t kept[16 + 3 * 65535]; /* the index of the good book, for all that is made of it */
+static size_t kept_length;
 static uint32_t seed;
 
 static uint32_t chance(uint32_t below) {
     seed = seed * 1664525u + 1013904223u;
     return (seed >> 8) % below;
+}
+
+/* the index of the book that stands there, and a lookup through the index of the good one */
+static void compare_indexed(const struct book *b) {
+    static uint8_t made[sizeof kept], plain[sizeof kept];
+    wt_length length;
+    wt_found found;
+    size_t n, k = indexed % b->records;
+    struct stretch s;
+    struct refusal r = plain_index(b->octets, b->length, plain, sizeof plain, &n);
+    uint32_t number = wt_index(b->octets, b->length, made, sizeof made, &length);
+    if (number != r.number || length.place != (number ? r.place : 0) || length.length != n || memcmp(made, plain, n))
+        differ++;
+    r = plain_lookup_indexed(b->octets, b->length, kept, kept_length, k, b->tag, &s);
+    number = wt_lookup_indexed(b->octets, b->length, kept, kept_length, k, b->tag, &found);
+    looked[number]++;
+    indexed++;
+    if (number != r.number || found.place != (number ? r.place : 0) || found.start != s.start || found.end != s.end)
+        differ++;
 }
 
 static void compare(const struct book *b) {
@@ -28,6 +51,7 @@ static void compare(const struct book *b) {
     if (number != r.number || out.place != (number ? r.place : 0) || out.length != (number ? 0 : b->length)) differ++;
     int there = wt_lookup(b->octets, b->length, k, b->tag, &found) == WT_DONE && found.present;
     if (there != (s.end != 0) || (there && (found.start != s.start || found.end != s.end))) differ++;
+    compare_indexed(b);
 }
 
 /* one octet changed, with and without a serial that fits */
@@ -137,7 +161,7 @@ static void write_again(const struct book *b) {
 
 static void say(const char *what, unsigned tried, const unsigned *met_by) {
     printf("%u %s; answers met:", tried, what);
-    for (int i = 0; i < 19; i++)
+    for (int i = 0; i < NUMBERS_MET; i++)
         if (met_by[i]) printf(" %d", i);
     printf("\n");
 }
@@ -146,7 +170,7 @@ int agree(void) {
     for (enum shape s = 0; s < SHAPES; s++) {
         struct book b = make_book(s, 20000);
         seed = 1 + s;
-        if (plain_judge(b.octets, b.length).number != 0) differ++;
+        if (plain_index(b.octets, b.length, kept, sizeof kept, &kept_length).number != 0) differ++;
         compare(&b);
         damage(&b);
         cut(&b);
@@ -155,6 +179,7 @@ int agree(void) {
         free(b.octets);
     }
     say("books judged and looked up", judged, met);
+    say("indexes made, and lookups through that of the good book", indexed, looked);
     say("corrections", mended, answers);
     printf("%d books written again; %u differ\n", SHAPES, differ);
     return differ != 0;

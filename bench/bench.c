@@ -3,6 +3,7 @@
 #include "agree.h"
 #include "books.h"
 #include "corrector.h"
+#include "indexed.h"
 #include "replay.h"
 #include <stdio.h>
 #include <stdlib.h>
@@ -273,6 +274,7 @@ int main(int argc, char **argv) {
     if (1 < argc) turns = atoi(argv[1]);
     if (agree()) return 1;
     serials();
+    indexed(turns);
     printf("\nlibrary / plain C with a table-driven serial; walks: judge without the serial, on both sides\n%-24s %7s %8s", "shape", "MiB", "records");
     for (int w = JUDGE; w < WORKS; w++) printf(" %7s", work_names[w]);
     printf(" %7s %9s\n", "walks", "judge ns/o");

@@ -40,5 +40,10 @@ int is_narrow(const uint8_t *s, size_t n);
 int is_utf8(const uint8_t *s, size_t n);
 struct refusal judge_record(const uint8_t *book, size_t n, size_t at, const struct columns *t, int keys, size_t *size);
 struct refusal judge_with(const uint8_t *book, size_t n, struct tables *t);
+struct refusal read_tables(const uint8_t *book, size_t n, struct tables *t);
+/* the column with a tag; the count where there is none */
+size_t find_column(const struct columns *t, uint32_t tag);
+/* the value of a column in the record at `at`, which is judged */
+struct stretch seek(const uint8_t *book, size_t at, const struct columns *t, size_t column);
 
 #endif

@@ -196,7 +196,7 @@ static struct refusal read_table(const uint8_t *book, size_t n, size_t at, struc
     return r;
 }
 
-static struct refusal read_tables(const uint8_t *book, size_t n, struct tables *t) {
+struct refusal read_tables(const uint8_t *book, size_t n, struct tables *t) {
     if (MOST_OCTETS < n) return refuse(1, 0);
     if (n < 12) return refuse(2, 0);
     if (word32(book) != 0x20) return refuse(3, 0);
@@ -259,23 +259,33 @@ struct refusal plain_judge(const uint8_t *book, size_t n) {
     return judge_with(book, n, &t);
 }
 
-struct stretch plain_lookup(const uint8_t *book, size_t n, size_t k, uint32_t tag) {
-    struct stretch found = {0, 0};
-    struct tables t;
-    if (judge_with(book, n, &t).number) return found;
-    if (word32(book + 8) <= k) return found;
+size_t find_column(const struct columns *t, uint32_t tag) {
     size_t column = 0;
-    while (column < t.address.count && t.address.tags[column] != tag) column++;
-    if (column == t.address.count) return found;
-    size_t at = t.at + word32(book + t.at);
-    for (; 0 < k; k--) at += word32(book + at);
+    while (column < t->count && t->tags[column] != tag) column++;
+    return column;
+}
+
+struct stretch seek(const uint8_t *book, size_t at, const struct columns *t, size_t column) {
+    struct stretch found = {0, 0};
     const uint8_t *p = book + at + 4;
     if (!present(p, column)) return found;
     size_t end = at + word32(book + at);
-    size_t i = at + 4 + (t.address.count + 7) / 8;
+    size_t i = at + 4 + (t->count + 7) / 8;
     for (size_t j = 0; j < column; j++)
-        if (present(p, j)) i += value(t.address.forms[j], book + i, end - i);
+        if (present(p, j)) i += value(t->forms[j], book + i, end - i);
     found.start = i;
-    found.end = i + value(t.address.forms[column], book + i, end - i);
+    found.end = i + value(t->forms[column], book + i, end - i);
     return found;
+}
+
+struct stretch plain_lookup(const uint8_t *book, size_t n, size_t k, uint32_t tag) {
+    struct stretch nothing = {0, 0};
+    struct tables t;
+    if (judge_with(book, n, &t).number) return nothing;
+    if (word32(book + 8) <= k) return nothing;
+    size_t column = find_column(&t.address, tag);
+    if (column == t.address.count) return nothing;
+    size_t at = t.at + word32(book + t.at);
+    for (; 0 < k; k--) at += word32(book + at);
+    return seek(book, at, &t.address, column);
 }

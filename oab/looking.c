@@ -1,5 +1,5 @@
-/* The commands that look values up: show, get, find; and index, which saves what makes that quick. A record is looked up
- * through an index: the one that --index names, or one that is made in memory, which judges the book once. */
+/* The commands that look values up: show, get, find; and index, which saves what makes that quick. A record is looked
+ * up through an index: the one that --index names, or one that is made in memory, which judges the book once. */
 #include "commands.h"
 #include "files.h"
 #include "saving.h"
@@ -228,11 +228,11 @@ int run_get(const struct command *c)
 
 /* ---- find */
 
-/* What is looked for, and the octets of the record that is searched, in small letters with -i. */
+/* What is looked for; with -i in small letters, as is a copy of the record that is searched. */
 struct search {
     const struct command *c;
     struct indexed x;
-    struct octets text, record;
+    struct octets text, copy;
     int alike, tagged;
     uint32_t tag;
     uint64_t found;
@@ -244,60 +244,66 @@ static void make_small(uint8_t *s, size_t n)
     for (i = 0; i < n; i++) s[i] = (uint8_t)(s[i] + (s[i] >= 'A' && s[i] <= 'Z' ? 'a' - 'A' : 0));
 }
 
-static int holds(const struct search *f, const uint8_t *s, size_t n)
+/* Where the text starts first from `at` on, in n octets; n + 1 where it doesn't. */
+static size_t next_hit(const struct search *f, const uint8_t *s, size_t n, size_t at)
 {
-    return f->text.length == 0 || (n && memmem(s, n, f->text.at, f->text.length) != NULL);
+    const uint8_t *hit;
+    if (f->text.length == 0) return at;
+    hit = at < n ? memmem(s + at, n - at, f->text.at, f->text.length) : NULL;
+    return hit ? (size_t)(hit - s) : n + 1;
 }
 
-/* The texts of a value that hold the text: `s` as it stands in the book, `small` as it is searched. */
-static void print_texts(struct search *f, uint64_t record, uint32_t tag, const uint8_t *s, const uint8_t *small, size_t n)
+static void print_text(const struct command *c, uint64_t record, uint32_t tag, const uint8_t *text, size_t n)
 {
-    const struct command *c = f->c;
+    const char *name = c->options & NAMES ? tag_name(tag) : NULL;
+    if (c->options & JSON) print_object(c, record, tag);
+    else if (name) fprintf(c->to, "%" PRIu64 "\t%s\t", record, name);
+    else fprintf(c->to, "%" PRIu64 "\t%08" PRIX32 "\t", record, tag);
+    print_words(c->to, tag, text, n, (c->options & JSON) != 0);
+    fputs(c->options & JSON ? "}\n" : "\n", c->to);
+}
+
+/* The texts of a value that hold the text: `s` as it stands in the book, `searched` as it is searched. */
+static void print_texts(struct search *f, uint64_t record, uint32_t tag, const uint8_t *s, size_t n,
+    const uint8_t *searched)
+{
     const uint8_t *text;
     size_t at = 0;
     long k;
     while ((k = next_text(tag, s, n, &at, &text)) >= 0) {
-        if (!holds(f, small + (text - s), (size_t)k)) continue;
+        if (next_hit(f, searched + (text - s), (size_t)k, 0) > (size_t)k) continue;
         f->found++;
-        if (c->options & JSON) {
-            print_object(c, record, tag);
-        } else {
-            fprintf(c->to, "%" PRIu64 "\t", record);
-            print_tag(c, tag);
-            putc('\t', c->to);
-        }
-        print_words(c->to, tag, text, (size_t)k, (c->options & JSON) != 0);
-        fputs(c->options & JSON ? "}\n" : "\n", c->to);
+        print_text(f->c, record, tag, text, (size_t)k);
     }
 }
 
-/* A value that may be printed is looked up first: what is printed stands where the library says. */
-static int find_value(struct search *f, uint64_t record, uint32_t tag, size_t start, size_t end, const uint8_t *small)
+/* What is printed is a value that the library has looked up, where it stands; `searched` has the record's octets. */
+static int find_value(struct search *f, uint64_t record, uint32_t tag, size_t start, const uint8_t *searched)
 {
     wt_found found = { 0 };
-    int result;
-    if (!is_text(tag) || (f->tagged && tag != f->tag) || !holds(f, small, end - start)) return DONE;
-    result = look(&f->x, record, tag, &found);
-    if (result != DONE) return result;
-    if (!found.present || found.start != start || found.end != end)
-        return fail(f->x.name, "record %" PRIu64 ": the value under %08" PRIX32 " isn't where it was looked for", record, tag);
-    print_texts(f, record, tag, f->x.book.at + start, small, end - start);
-    return DONE;
+    int result = look(&f->x, record, tag, &found);
+    if (result == DONE && found.present)
+        print_texts(f, record, tag, f->x.book.at + found.start, (size_t)(found.end - found.start),
+            searched + (found.start - start));
+    return result;
 }
 
-/* The values of a record whose octets hold the text somewhere. The book is judged, so each value has its form. */
-static int find_in_record(struct search *f, uint64_t record, size_t start, size_t size)
+/* A record in whose octets the text starts somewhere, first at `hit`: the columns of text that can hold it, by a walk
+ * over the values. The book is judged, so each value has its form. */
+static int find_in_record(struct search *f, uint64_t record, size_t start, size_t size, const uint8_t *searched,
+    size_t hit)
 {
-    const uint8_t *book = f->x.book.at;
+    const uint8_t *s = f->x.book.at + start;
     uint32_t i, count = column_count(&f->x);
-    size_t at = start + 4 + (count + 7) / 8, end = start + size;
+    size_t at = 4 + (count + 7) / 8;
     int result = DONE;
-    for (i = 0; result == DONE && i < count; i++) {
+    for (i = 0; result == DONE && hit <= size && i < count; i++) {
         uint32_t tag = column_tag(&f->x, i);
         size_t n;
-        if (!(book[start + 4 + i / 8] >> (7 - i % 8) & 1)) continue;
-        n = value_size(tag, book + at, end - at);
-        result = find_value(f, record, tag, at, at + n, f->record.at + (at - start));
+        if (!(s[4 + i / 8] >> (7 - i % 8) & 1)) continue;
+        n = value_size(tag, s + at, size - at);
+        if (hit < at) hit = next_hit(f, searched, size, at);
+        if (is_text(tag) && hit + f->text.length <= at + n) result = find_value(f, record, tag, start, searched);
         at += n;
     }
     return result;
@@ -312,10 +318,17 @@ static int find_all(struct search *f)
     for (k = 0; result == DONE && k < count; k++) {
         const uint8_t *entry = x->index.at + WT_INDEX_FRONT + WT_INDEX_ENTRY * k;
         size_t start = entry[0] | (size_t)entry[1] << 8 | (size_t)entry[2] << 16, size = number_at(x->book.at + start);
-        f->record.length = 0;
-        if (!add(&f->record, x->book.at + start, size)) return fail(x->name, "%s", strerror(errno));
-        if (f->alike) make_small(f->record.at, size);
-        if (holds(f, f->record.at, size)) result = find_in_record(f, k, start, size);
+        const uint8_t *searched = x->book.at + start;
+        size_t hit;
+        if (f->alike) {
+            f->copy.length = 0;
+            if (!add(&f->copy, searched, size)) return fail(x->name, "%s", strerror(errno));
+            make_small(f->copy.at, size);
+            searched = f->copy.at;
+        }
+        hit = next_hit(f, searched, size, 0);
+        if (hit > size) continue;
+        result = f->tagged ? find_value(f, k, f->tag, start, searched) : find_in_record(f, k, start, size, searched, hit);
         show_progress(f->c, k + 1, count, "records");
     }
     progress_ends();
@@ -362,7 +375,7 @@ int run_find(const struct command *c)
     }
     drop_indexed(&f.x);
     drop(&f.text);
-    drop(&f.record);
+    drop(&f.copy);
     return result;
 }
 

@@ -25,7 +25,10 @@ static int read_book(const char *name, struct octets *book, wt_judged *judged)
 
 void show_progress(const struct command *c, uint64_t done, uint64_t all, const char *things)
 {
-    if (c->to != stdout || !isatty(1)) progress(done, all, things);
+    static int known, lines;
+    if (!known) lines = c->to == stdout && isatty(1);
+    known = 1;
+    if (!lines) progress(done, all, things);
 }
 
 /* ---- check */

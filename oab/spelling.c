@@ -37,8 +37,8 @@ static size_t character(const uint8_t *s, size_t n, uint32_t *point)
 
 static void put(FILE *to, int c, unsigned how)
 {
-    if (how & IN_JSON && (c == '"' || c == '\\')) putc('\\', to);
-    putc(c, to);
+    if (how & IN_JSON && (c == '"' || c == '\\')) putc_unlocked('\\', to);
+    putc_unlocked(c, to);
 }
 
 static void put_octet(FILE *to, uint8_t octet, unsigned how)
@@ -47,13 +47,28 @@ static void put_octet(FILE *to, uint8_t octet, unsigned how)
     fprintf(to, "x%02X", octet);
 }
 
+/* How many octets in front are spelled by themselves: most of all text. */
+static size_t plain_run(const uint8_t *s, size_t n, unsigned how)
+{
+    size_t i = 0;
+    while (i < n && s[i] >= 0x20 && s[i] < 0x7f && s[i] != '\\' && !(how & IN_JSON && s[i] == '"')) i++;
+    return i;
+}
+
 void spell(FILE *to, const uint8_t *s, size_t n, unsigned how)
 {
     size_t i = 0, k;
     while (i < n) {
         uint32_t point = 0;
-        size_t width = character(s + i, n - i, &point);
-        int safe = width && !is_unsafe(point) && !(how & AS_NARROW && s[i] > 0x7f);
+        size_t width, plain = plain_run(s + i, n - i, how);
+        int safe;
+        if (plain) {
+            fwrite(s + i, 1, plain, to);
+            i += plain;
+            continue;
+        }
+        width = character(s + i, n - i, &point);
+        safe = width && !is_unsafe(point) && !(how & AS_NARROW && s[i] > 0x7f);
         if (width == 0) width = 1;
         if (s[i] == '\\' && !(how & IN_WORDS)) put(to, '\\', how);
         for (k = 0; k < width; k++) {

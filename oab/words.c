@@ -131,10 +131,19 @@ static double now(void)
     return (double)t.tv_sec + (double)t.tv_nsec / 1e9;
 }
 
+/* Asked once: it would be asked for every record. */
+static int on_terminal(void)
+{
+    static int known, yes;
+    if (!known) yes = isatty(2);
+    known = 1;
+    return yes;
+}
+
 void progress(uint64_t done, uint64_t all, const char *things)
 {
     double t;
-    if (quiet || !isatty(2)) return;
+    if (quiet || !on_terminal()) return;
     t = now();
     if (started == 0) started = t;
     if (t - started < 1 || t - shown < 0.1) return;

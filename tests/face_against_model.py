@@ -2,7 +2,7 @@
 
 Run from the top: python3 tests/face_against_model.py [SEED]. The library is that of `make shared`; where the
 environment says LIBRARY='a.o b.o ..', it is one linked of these objects, as for a machine that the kit doesn't compile
-for. The calls are those of make.py's streams made anew with other seeds: judging and columns, lookups, writings,
+for. The calls are those of make.py's streams made anew with other seeds: judging and columns, lookups, indexes, writings,
 corrections; then serials of any octets. Each is made on the model and on the library, from the same octets. Writings
 also get another buffer between the calls: larger, smaller, elsewhere. Ends with "N calls, 0 differ".
 """
@@ -18,7 +18,7 @@ from pathlib import Path
 sys.dont_write_bytecode = True
 
 import make
-from model import books, oab
+from model import books, indexes, oab
 
 TOP = Path(__file__).resolve().parent.parent
 SHIM = 0xA5A5A5A5A5A5A5A5       # what the numbers of a struct are before a call
@@ -73,6 +73,10 @@ class Length(Numbers):
     _fields_ = fields('place', 'length')
 
 
+class Start(Numbers):
+    _fields_ = fields('place', 'start')
+
+
 class Writing(Numbers):
     _fields_ = fields('place', 'written') + [('rest', ctypes.c_uint64 * 8)]
 
@@ -88,6 +92,13 @@ def words(numbers):
 def refused(struct, place):
     """Where a call is refused, every number behind the place is 0."""
     return [place] + [0] * (len(struct.list()) - 1)
+
+
+def found(out, want):
+    """A lookup's answer in numbers."""
+    if want[0] == 'at':
+        return 0, [0, 1, want[1], want[2]]
+    return (0, [0, 0, 0, 0]) if want[0] == 'absent' else (want[1], refused(out, want[2]))
 
 
 def compare(what, want, got):
@@ -140,16 +151,75 @@ class Face:
         want = oab.lookup(book, record, tag)
         out = Found()
         answer = self.lib.wt_lookup(*octets(book), named(record), ctypes.c_uint32(tag), ctypes.byref(out))
-        if want[0] == 'at':
-            model = (0, [0, 1, want[1], want[2]])
-        elif want[0] == 'absent':
-            model = (0, [0, 0, 0, 0])
-        else:
-            model = (want[1], refused(out, want[2]))
-        compare(('lookup', record, tag), model, (answer, out.list()))
+        compare(('lookup', record, tag), found(out, want), (answer, out.list()))
 
     def serial(self, data):
         compare(('serial', len(data)), oab.serial(data), self.lib.wt_serial(*octets(data)))
+
+
+# ---- indexes: make.py's stream, each call made on the library, too
+
+class FaceIndex(make.IndexStream):
+    def __init__(self, library):
+        super().__init__()
+        self.lib = library
+
+    def add(self, payload, line):
+        """Nothing is stored, so books of any length may come."""
+
+    def make(self, book, room):
+        want = super().make(book, room)
+        lent, size = octets(b'\xA5' * room)
+        out = Length()
+        answer = self.lib.wt_index(*octets(book), lent, size, ctypes.byref(out))
+        made = want[1] if want[0] == 'made' else b''
+        model = (0, [0, len(made)]) if made else (want[1], refused(out, want[2]))
+        after = made + b'\xA5' * (room - len(made))
+        compare(('index', room), model + (after,), (answer, out.list(), bytes(lent)[:room]))
+        return want
+
+    def entry(self, book, index, k):
+        want = super().entry(book, index, k) if k < 1 << 32 else oab.index_entry(book, index, k)
+        out = Start()
+        answer = self.lib.wt_index_entry(*octets(book), *octets(index), ctypes.c_uint64(k), ctypes.byref(out))
+        model = (0, [0, want[1]]) if want[0] == 'at' else (want[1], refused(out, want[2]))
+        compare(('entry', k), model, (answer, out.list()))
+        return want
+
+    def ask(self, book, index, k, tag):
+        want = super().ask(book, index, k, tag) if k < 1 << 32 else oab.lookup_indexed(book, index, k, tag)
+        out = Found()
+        answer = self.lib.wt_lookup_indexed(*octets(book), *octets(index), ctypes.c_uint64(k), ctypes.c_uint32(tag),
+                                            ctypes.byref(out))
+        compare(('indexed', k, tag), found(out, want), (answer, out.list()))
+        return want
+
+
+def read_indexed(stream, rng):
+    """Own, wrong and damaged indexes, damaged books, records by numbers of 64 bits."""
+    for table in (oab.table_of(books.small_book()), oab.table_of(books.sample_book()), books.MANAGER_TABLE):
+        make.index_own(stream, rng, table)
+        make.index_wrong(stream, rng, table, books.octets_of(books.some_table(rng)))
+        make.index_spoilt(stream, rng, table)
+    make.index_tables(stream, rng)
+    for _ in range(150):
+        table = books.some_table(rng, records=rng.choice((1, 2, 3, 4)))
+        book = books.octets_of(table)
+        index = indexes.own(book)
+        make.index_own(stream, rng, table)
+        if rng.random() < 0.5:
+            book = books.random_damage(book, rng)
+        if rng.random() < 0.5:
+            index = books.random_damage(index, rng)
+        tags = [tag for tag, _ in table[1]] + [0]
+        for k in (0, len(table[3]) - 1, len(table[3]), 1 << 32, (1 << 32) + 1, HEADER - 1, HEADER):
+            stream.entry(book, index, k)
+            for tag in rng.sample(tags, min(3, len(tags))):
+                stream.ask(book, index, k, tag)
+    book = books.small_book()
+    long = book + bytes(oab.LIMIT + 1 - len(book))
+    stream.entry(long, indexes.own(book), 0)
+    stream.ask(long, indexes.own(book), 0, 0)
 
 
 # ---- writings: make.py's stream, each call made on the library, too
@@ -285,6 +355,7 @@ def main():
     face = Face(library)
     face.version()
     read(face, rng)
+    read_indexed(FaceIndex(library), rng)
     stream = FaceWriting(library)
     make.writing_begins(stream, rng)
     make.writing_refusals(stream, rng)

@@ -255,7 +255,7 @@ def anywhere(folder):
 
 
 def helping(folder):
-    for words in ((), ('check',), ('list',), ('columns',), ('show',), ('get',), ('set',), ('clear',), ('insert',),
+    for words in ((), ('check',), ('list',), ('columns',), ('show',), ('get',), ('find',), ('index',), ('set',), ('clear',), ('insert',),
                   ('delete',), ('extract',), ('apply',)):
         for option in ('--help', '-h'):
             got = run(*words, option)

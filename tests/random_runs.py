@@ -17,13 +17,15 @@ import oab_tools
 from oab_tools import TOP
 
 import make
-from model import books, oab, spelling
+from model import books, indexes, oab, spelling
 from model.names import NAMES
 from oab_apply import line_of
 from oab_spelling import is_safe
 
-COMMANDS = ('check', 'list', 'columns', 'show', 'get', 'set', 'clear', 'insert', 'delete', 'extract', 'apply')
-OPTIONS = ('-o', '-q', '-n', '-e', '-h', '--json', '--names', '--raw', '--help', '--version', '--', '-qn', '-o')
+COMMANDS = ('check', 'list', 'columns', 'show', 'get', 'find', 'index', 'set', 'clear', 'insert', 'delete', 'extract',
+            'apply')
+OPTIONS = ('-o', '-q', '-n', '-e', '-h', '-i', '-t', '--index', '--json', '--names', '--raw', '--help', '--version', '--',
+           '-qn', '-o')
 OCTETS = {'--raw', 'extract', '-'}            # with these the output may be octets
 
 
@@ -42,11 +44,19 @@ def some_book(rng):
     return (octets, table) if what > 1 else (books.random_damage(octets, rng), None)
 
 
+def some_index(rng, octets, table):
+    """The book's own index, a damaged one, or any octets."""
+    if table is None or rng.random() < 0.2:
+        return some_octets(rng, 40)
+    index = indexes.own(octets)
+    return index if rng.random() < 0.6 else books.random_damage(index, rng)
+
+
 def some_word(rng, table):
     """Any word without a slash, so that nothing outside the folder is named."""
     tags = [tag for tag, _ in (table[0] + table[1] if table else [])] + [0x3001001F]
     return rng.choice((
-        lambda: 'book', lambda: 'record', lambda: 'lines', lambda: '-', lambda: 'out', lambda: 'header',
+        lambda: 'book', lambda: 'record', lambda: 'lines', lambda: 'saved', lambda: '-', lambda: 'out', lambda: 'header',
         lambda: str(rng.randrange(4)),
         lambda: f'{rng.choice(tags):08X}', lambda: f'{rng.choice(tags):08X}', lambda: rng.choice(list(NAMES.values())),
         lambda: rng.choice(OPTIONS),
@@ -59,7 +69,9 @@ def some_words(rng, table):
     tag = rng.choice([tag for tag, _ in table[1]]) if table and table[1] else 0x3001001F
     kind = oab.type_of(tag)
     value = spelling.words(kind, books.some_value(rng, kind))
-    right = {'show': ['book', '0', 'header'], 'get': ['book', '0', f'{tag:08X}'],
+    through = rng.choice(([], ['--index', 'saved']))
+    right = {'show': [*through, 'book', '0', *['header'] * (not through)], 'get': [*through, 'book', '0', f'{tag:08X}'],
+             'find': ['book', '--', rng.choice(value)[:3]],
              'set': ['book', '0', f'{tag:08X}', '--', *value],
              'clear': ['book', '0', f'{tag:08X}'], 'insert': ['book', '0', 'record'], 'delete': ['book', '0'],
              'extract': ['book', '0'],
@@ -90,7 +102,8 @@ def one_run(rng, folder, answers):
     """None, or what is wrong."""
     octets, table = some_book(rng)
     files = {'book': octets, 'lines': some_lines(rng, table),
-             'record': rng.choice((some_octets(rng, 60), oab.record_octets(table[3][0]) if table else b''))}
+             'record': rng.choice((some_octets(rng, 60), oab.record_octets(table[3][0]) if table else b'')),
+             'saved': some_index(rng, octets, table)}
     for path in folder.iterdir():
         path.unlink()
     for name, content in files.items():
