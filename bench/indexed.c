@@ -60,10 +60,11 @@ static double asking(const struct book *b, size_t m, int side) {
     for (int r = 0; r < ROUNDS; r++)
         for (size_t i = 0; i < ASKED; i++) {
             size_t k = i * (b->records - 1) / (ASKED - 1);
+            const uint8_t *index = index_of[side];
             struct stretch s;
             wt_found found;
-            if (side == PLAIN) sink = plain_lookup_indexed(b->octets, b->length, index_of[side], m, k, b->tag, &s).number;
-            else sink = wt_lookup_indexed(b->octets, b->length, index_of[side], m, k, b->tag, &found);
+            if (side == PLAIN) sink = plain_lookup_indexed(b->octets, b->length, index, m, k, b->tag, &s).number;
+            else sink = wt_lookup_indexed(b->octets, b->length, index, m, k, b->tag, &found);
         }
     return (now() - start) / ROUNDS / ASKED;
 }
@@ -84,8 +85,9 @@ void indexed(int turns) {
                 if (time < t[side]) t[side] = time;
             }
         for (int side = 0; side < SIDES && size == 0; side++) first[side] = t[side];
-        printf("%6.2f MiB %8zu records: library %.3f %5.2f, C %.3f %5.2f; %5.2f\n", (double)b.length / (1 << 20), b.records,
-            t[LIBRARY] * 1e6, t[LIBRARY] / first[LIBRARY], t[PLAIN] * 1e6, t[PLAIN] / first[PLAIN], t[LIBRARY] / t[PLAIN]);
+        printf("%6.2f MiB %8zu records: library %.3f %5.2f, C %.3f %5.2f; %5.2f\n", (double)b.length / (1 << 20),
+            b.records, t[LIBRARY] * 1e6, t[LIBRARY] / first[LIBRARY], t[PLAIN] * 1e6, t[PLAIN] / first[PLAIN],
+            t[LIBRARY] / t[PLAIN]);
         free(b.octets);
     }
 }

@@ -26,8 +26,8 @@ struct refusal plain_index(const uint8_t *book, size_t n, uint8_t *index, size_t
     return refuse(0, 0);
 }
 
-struct refusal plain_lookup_indexed(const uint8_t *book, size_t n, const uint8_t *index, size_t m, size_t k, uint32_t tag,
-    struct stretch *found) {
+struct refusal plain_lookup_indexed(const uint8_t *book, size_t n, const uint8_t *index, size_t m, size_t k,
+    uint32_t tag, struct stretch *found) {
     struct tables t;
     struct refusal r = read_tables(book, n, &t);
     size_t count, column, size, at;

@@ -107,8 +107,8 @@ uint32_t wt_lookup(const uint8_t *book, size_t octets, uint64_t record, uint32_t
 uint32_t wt_serial(const uint8_t *octets, size_t count);
 
 /* ---- a saved index: the book's count of address records, its length, its serial and the offset of the starts, four
- * octets each, then the start of each address record in WT_INDEX_ENTRY octets; least octets first. With it one record is
- * looked up without reading the others. */
+ * octets each, then the start of each address record in WT_INDEX_ENTRY octets; the least octet first. With it one
+ * record is looked up without judging the others. */
 #define WT_INDEX_FRONT 16u
 #define WT_INDEX_ENTRY 3u
 
@@ -117,11 +117,11 @@ uint32_t wt_serial(const uint8_t *octets, size_t count);
 uint32_t wt_index(const uint8_t *WT_RESTRICT book, size_t octets, uint8_t *WT_RESTRICT index, size_t room,
     wt_length *WT_RESTRICT out);
 
-/* The next two read the book's header, its metadata and the index; the lookup reads record k, too, and nothing else.
- * Refusals: 1, 2, 3, 13 for the count, 2, 5, 6, 7 and 4, as in wt_judge; 19 at 0 where the index's offset isn't 16, or
- * its count, its length, its serial or its own size isn't that of the book; 15 for a record or a column that isn't
- * there (the header record isn't offered here); 19 at 0 where the entry isn't below the book's length; and in the lookup
- * the record's own, 2, 8, 9, 10, 11 and 12.
+/* What the next two answer depends on the book's length, its header and metadata and on the index; the lookup's
+ * answer on record k, too; and on nothing else. Refusals: 1, 2, 3, 13 for the count, 2, 5, 6, 7 and 4, as in
+ * wt_judge; 19 at 0 where the index's offset isn't 16, or its count, its length, its serial or its own size isn't
+ * that of the book; 15 for a record or a column that isn't there (the header record isn't offered here); 19 at 0
+ * where the entry isn't below the book's length; and in the lookup the record's own, 2, 8, 9, 10, 11 and 12.
  *
  * In a good book and with the index that wt_index makes of it, the entry is the record's place and the lookup is
  * wt_lookup. With any other pair each call still ends, and what it hands back lies in the book; whose value that is

@@ -1,5 +1,5 @@
 # Completion of oab's commands, options, records and names of tags for bash.
-_oab_commands="check list columns show get set clear insert delete extract apply"
+_oab_commands="check list columns show get find index set clear insert delete extract apply"
 _oab_names="
     OfflineAddressBookName OfflineAddressBookDistinguishedName OfflineAddressBookSequence
     OfflineAddressBookContainerGuid AddressBookHierarchicalRootDepartment EmailAddress SmtpAddress DisplayName
@@ -23,7 +23,7 @@ _oab() {
     local word=${COMP_WORDS[COMP_CWORD]} before=${COMP_WORDS[COMP_CWORD - 1]} command='' at=0 i
     for ((i = 1; i < COMP_CWORD; i++)); do
         case ${COMP_WORDS[i]} in
-        -o) ((i++)) ;;
+        -o | -t | --index) ((i++)) ;;
         -*) ;;
         *) if [ -z "$command" ]; then command=${COMP_WORDS[i]}; else ((at++)); fi ;;
         esac
@@ -31,14 +31,18 @@ _oab() {
     local all="-o -q --help" options
     case $command in
     check | list) options="$all --json" ;;
-    columns | show) options="$all --json --names" ;;
-    get) options="$all --json --raw -e" ;;
+    columns) options="$all --json --names" ;;
+    show) options="$all --json --names --index" ;;
+    get) options="$all --json --raw -e --index" ;;
+    find) options="$all --json --names -i -t" ;;
     set) options="$all --raw -n" ;;
-    clear | insert | delete | apply) options="$all -n" ;;
+    clear | insert | delete | apply | index) options="$all -n" ;;
     extract) options=$all ;;
     *) options="--help --version" ;;
     esac
-    if [ "$before" = -o ]; then
+    if [ "$before" = -t ]; then
+        mapfile -t COMPREPLY < <(compgen -W "$_oab_names" -- "$word")
+    elif [ "$before" = -o ] || [ "$before" = --index ]; then
         compopt -o filenames
         mapfile -t COMPREPLY < <(compgen -f -- "$word")
     elif [[ $word == -* ]]; then

@@ -328,7 +328,8 @@ static int find_all(struct search *f)
         }
         hit = next_hit(f, searched, size, 0);
         if (hit > size) continue;
-        result = f->tagged ? find_value(f, k, f->tag, start, searched) : find_in_record(f, k, start, size, searched, hit);
+        if (f->tagged) result = find_value(f, k, f->tag, start, searched);
+        else result = find_in_record(f, k, start, size, searched, hit);
         show_progress(f->c, k + 1, count, "records");
     }
     progress_ends();

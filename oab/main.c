@@ -36,8 +36,8 @@ static const struct entry {
         "or element. Exit status 1 where there is none. The text is spelled as values of text are.",
         run_find, 2, 2, OUT | QUIET | JSON | NAMES | TAG | ALIKE },
     { "index", "BOOK",
-        "The book's index, saved as BOOK.index or where -o says. With it get and show look a record up without reading\n"
-        "the others. It is made anew when the book has changed: an index of another book is refused.",
+        "The book's index, saved as BOOK.index or where -o says. With it get and show look a record up without\n"
+        "judging the others. When the book has changed it is made anew: an index that isn't the book's is refused.",
         run_index, 1, 1, OUT | QUIET | DRY },
     { "set", "BOOK RECORD TAG VALUE..",
         "Set a value; a list takes a word an element. What get prints, set takes back as the same octets.\n"
@@ -91,7 +91,7 @@ static void describe(FILE *to, const struct entry *e)
     fputs("\nRECORD is 'header' or a number from 0, TAG eight hex digits or a name such as DisplayName. Values:\n"
           "numbers in decimal, yes or no, binary in hex, text with \\xNN for an octet and \\\\ for a backslash.\n"
           "Options stand anywhere before --; a value that starts with a dash needs -- in front of it.\n"
-          "Exit status: 0 done, 1 refused, 2 usage or system error, 3 absent, with -e.\n", to);
+          "Exit status: 0 done, 1 refused or nothing found, 2 usage or system error, 3 absent, with -e.\n", to);
 }
 
 static void describe_all(FILE *to)
@@ -101,7 +101,7 @@ static void describe_all(FILE *to)
           "Offline address books (version 4 full details files): judged, looked up, corrected.\n\n", to);
     for (i = 0; i < COMMANDS; i++) fprintf(to, "  oab %s %s\n", commands[i].name, commands[i].takes);
     fputs("\n'oab COMMAND --help' says more, 'oab --version' which one this is.\n"
-          "Exit status: 0 done, 1 refused, 2 usage or system error, 3 absent, with -e.\n", to);
+          "Exit status: 0 done, 1 refused or nothing found, 2 usage or system error, 3 absent, with -e.\n", to);
 }
 
 static void say_version(void)

@@ -2,9 +2,9 @@
 
 Run from the top: python3 tests/face_against_model.py [SEED]. The library is that of `make shared`; where the
 environment says LIBRARY='a.o b.o ..', it is one linked of these objects, as for a machine that the kit doesn't compile
-for. The calls are those of make.py's streams made anew with other seeds: judging and columns, lookups, indexes, writings,
-corrections; then serials of any octets. Each is made on the model and on the library, from the same octets. Writings
-also get another buffer between the calls: larger, smaller, elsewhere. Ends with "N calls, 0 differ".
+for. The calls are those of make.py's streams made anew with other seeds: judging and columns, lookups, indexes,
+writings, corrections; then serials of any octets. Each is made on the model and on the library, from the same octets.
+Writings also get another buffer between the calls: larger, smaller, elsewhere. Ends with "N calls, 0 differ".
 """
 
 import ctypes

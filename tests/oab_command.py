@@ -255,8 +255,8 @@ def anywhere(folder):
 
 
 def helping(folder):
-    for words in ((), ('check',), ('list',), ('columns',), ('show',), ('get',), ('find',), ('index',), ('set',), ('clear',), ('insert',),
-                  ('delete',), ('extract',), ('apply',)):
+    for words in ((), ('check',), ('list',), ('columns',), ('show',), ('get',), ('find',), ('index',), ('set',),
+                  ('clear',), ('insert',), ('delete',), ('extract',), ('apply',)):
         for option in ('--help', '-h'):
             got = run(*words, option)
             differs((words, option), (0, True, b''), (got[0], got[1].startswith(b'usage: oab '), got[2]))

@@ -61,7 +61,8 @@ def wrong_words(folder):
             (book, ('index', '-o', book, book)), (folder / 'link', ('index', '-o', folder / 'link', book)),
             (folder / 'link', ('-n', 'index', '-o', folder / 'link', book)),
             ('standard input', ('index', '-')), (missing, ('index', missing)), ('index', ('index',)),
-            (missing, ('get', '--index', missing, book, 0, '3001001F')), (missing, ('show', '--index', missing, book, 0)),
+            (missing, ('get', '--index', missing, book, 0, '3001001F')),
+            (missing, ('show', '--index', missing, book, 0)),
             ('--index', ('get', book, 0, '3001001F', '--index')),
             ('--index', ('get', '--index', book, '--index', book, book, 0, '3001001F')),
             ('--index FILE', ('check', '--index', book, book)), ('--index FILE', ('find', '--index', book, book, 'a')),
@@ -96,7 +97,8 @@ def through(folder):
             done = spelling.lines(oab.type_of(tag), stretch) if stretch else b''
             named = saved if answer[:2] == ('refused', 19) else book
             says('get --index', named, answer, run('get', '--index', saved, book, k, hex_tag(tag)), done)
-            says('get --raw --index', named, answer, run('get', '--raw', book, k, '--index', saved, hex_tag(tag)), stretch)
+            got = run('get', '--raw', book, k, '--index', saved, hex_tag(tag))
+            says('get --raw --index', named, answer, got, stretch)
             first = first or (answer if answer[0] == 'refused' else None)
             front = f'{k}\t{hex_tag(tag)}\t{spelling.TYPE_WORDS[oab.type_of(tag)]}\t'.encode()
             lines += b''.join(front + line + b'\n' for line in done.splitlines())
@@ -218,7 +220,8 @@ def beside_texts(folder):
     differs('and folds the rest', (0, '0\t3001001F\tÄrger\n'.encode()), run('find', '-i', umlaut, 'ÄRGER')[:2])
     differs('-o', (0, b''), run('find', '-o', out, book, 'gh')[:2])
     differs('-o FILE', b'0\t3002101F\tgh\n', content(out))
-    differs('nothing found leaves the file', (1, b'0\t3002101F\tgh\n'), (run('find', '-o', out, book, 'q')[0], content(out)))
+    status = run('find', '-o', out, book, 'q')[0]
+    differs('nothing found leaves the file', (1, b'0\t3002101F\tgh\n'), (status, content(out)))
     differs('standard input', (0, b'0\t3002101F\tgh\n'), run('find', '-', 'gh', stdin=book.read_bytes())[:2])
     differs('-q', (1, b'', b''), run('-q', 'find', book, 'q'))
     says('no column', book, ('refused', 15, 0), run('find', '-t', '3009001F', book, 'a'), b'')

@@ -24,8 +24,8 @@ from oab_spelling import is_safe
 
 COMMANDS = ('check', 'list', 'columns', 'show', 'get', 'find', 'index', 'set', 'clear', 'insert', 'delete', 'extract',
             'apply')
-OPTIONS = ('-o', '-q', '-n', '-e', '-h', '-i', '-t', '--index', '--json', '--names', '--raw', '--help', '--version', '--',
-           '-qn', '-o')
+OPTIONS = ('-o', '-q', '-n', '-e', '-h', '-i', '-t', '--index', '--json', '--names', '--raw', '--help', '--version',
+           '--', '-qn', '-o')
 OCTETS = {'--raw', 'extract', '-'}            # with these the output may be octets
 
 
@@ -56,7 +56,8 @@ def some_word(rng, table):
     """Any word without a slash, so that nothing outside the folder is named."""
     tags = [tag for tag, _ in (table[0] + table[1] if table else [])] + [0x3001001F]
     return rng.choice((
-        lambda: 'book', lambda: 'record', lambda: 'lines', lambda: 'saved', lambda: '-', lambda: 'out', lambda: 'header',
+        lambda: 'book', lambda: 'record', lambda: 'lines', lambda: 'saved', lambda: '-', lambda: 'out',
+        lambda: 'header',
         lambda: str(rng.randrange(4)),
         lambda: f'{rng.choice(tags):08X}', lambda: f'{rng.choice(tags):08X}', lambda: rng.choice(list(NAMES.values())),
         lambda: rng.choice(OPTIONS),

@@ -234,14 +234,7 @@ fn decide(book: &[u8], room: usize, which: Which, tag: u32, there: bool, value: 
 }
 
 // A value set where one is to be there, else cleared.
-fn correct(
-    buf: &mut [u8],
-    len: usize,
-    which: Which,
-    tag: u32,
-    there: bool,
-    value: &[u8],
-) -> Made
+fn correct(buf: &mut [u8], len: usize, which: Which, tag: u32, there: bool, value: &[u8]) -> Made
     requires { ⌜ now value ≡ entryOctets (offered there (now value)) ⌝ }
     ensures { λ r. ⌜ (r ≡ setAnswer (now (buf .entry)) len which tag (offered there (now (value .entry)))) × (now (buf .exit) ≡ setOctets (now (buf .entry)) len which tag (offered there (now (value .entry)))) ⌝ }
 {

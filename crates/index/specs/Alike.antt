@@ -31,7 +31,7 @@ alike-drop m n xs ys a =
     record {
       long = rw (length-drop m xs, length-drop m ys, l);
       same = same-front (take m xs) (take m ys) _ _ (rw (length-take m xs, length-take m ys, l))
-      (sym (take-add m n xs) ∙ a .same ∙ take-add m n ys) .1;
+          (sym (take-add m n xs) ∙ a .same ∙ take-add m n ys) .1;
     }
 
 pub alike-word : (w n : ℕ) (xs ys : List ℕ) → w ≤ n → Alike n xs ys → wordOf w xs ≡ wordOf w ys

@@ -154,15 +154,27 @@ fn one_case(
     if what == 0 {
         let at = words(out, lent.at, b"book");
         let n = keep(&case[0..long], book);
-        return Lent { book: n, index: m, at };
+        return Lent {
+            book: n,
+            index: m,
+            at,
+        };
     }
     if what == 1 {
         let at = words(out, lent.at, b"index");
         let m = keep(&case[0..long], index);
-        return Lent { book: n, index: m, at };
+        return Lent {
+            book: n,
+            index: m,
+            at,
+        };
     }
     let at = ask(&case[0..long], &book[0..n], &index[0..m], buf, out, lent.at);
-    Lent { book: n, index: m, at }
+    Lent {
+        book: n,
+        index: m,
+        at,
+    }
 }
 
 // ---- the stream
@@ -184,7 +196,11 @@ fn all_cases(
         if long == NO_CASE {
             return at;
         }
-        let lent = Lent { book: n, index: m, at };
+        let lent = Lent {
+            book: n,
+            index: m,
+            at,
+        };
         let next = one_case(case, long, book, index, lent, buf, out);
         n = next.book;
         m = next.index;

@@ -1,9 +1,9 @@
 // A record put into a book where it stands, or taken out of it. The book is judged first; a refused call changes no octet.
+use answers::Made;
 use answers::Refusal;
 use answers::Verdict;
 use answers::refuse;
 use book::Judged;
-use answers::Made;
 use table::Columns;
 ghost use mathlib.Core.Path.{_≡_};
 ghost use mathlib.Core.List.{[]};
