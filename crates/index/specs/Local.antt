@@ -68,7 +68,10 @@ module _ (xs ys : List ℕ) (long : length xs ≡ length ys)
   pair-alike : (ix : List ℕ) (k : ℕ) → pairAt xs ix k ≡ pairAt ys ix k
   unfolding pairAt indexAt
   pair-alike ix k =
-      rw (tables-through xs ys both-fronts, number-alike xs ys both-fronts, serial-alike xs ys both-fronts, long)
+      let t = tables-through xs ys both-fronts in
+      let n = number-alike xs ys both-fronts in
+      let s = serial-alike xs ys both-fronts in
+      cc
 
   -- The reader's answer doesn't depend on any record.
   pub entry-local : (ix : List ℕ) (k : ℕ) → entryOf xs ix k ≡ entryOf ys ix k

@@ -62,7 +62,9 @@ module _ (xs : List ℕ) (e : judge xs ≡ clear) (ix : List ℕ) (own : indexAt
 
   pair-is : (k : ℕ) → pairAt xs ix k ≡ need (ltb k (countIn xs)) outOfTurn 0
   unfolding pairAt
-  pair-is k = rw (tables-clear, own)
+  pair-is k =
+      let t = tables-clear in
+      cc
 
   entry-clear : (k : ℕ) → k < countIn xs → entryIn xs (placeIn xs k) ≡ clear
   entry-clear k h = met wrongIndex 0 (lt-ltb (placeIn xs k) (length xs) (record-good xs e k h .0))
