@@ -21,8 +21,8 @@ use Rattle.entry.specs.Slots.{slotsFrom}
 use Rattle.book.specs.Book.{colsIn, countIn, headerAt}
 use Rattle.book.specs.Front.{throughTables}
 use Rattle.book.specs.Judged.{tablesIn}
-use Rattle.book.specs.JudgeCases.{slots-row, verdict-is, address-are, tables-fit}
-use Rattle.book.specs.Good.{header-keeps, tags-in, forms-in, bits-in, reach-tags, reach-forms, reach-bits}
+use Rattle.book.specs.JudgeCases.{slots-row, verdict-is, address-are}
+use Rattle.book.specs.Good.{header-keeps, tags-in, forms-in, bits-in, tags-reach, forms-reach, flags-reach}
 use Rattle.book.specs.declared.Tables.{Tables}
 use Rattle.lookup.specs.Cases.{seek-same}
 use Rattle.lookup.specs.Look.{noSuch, seekIn, columnIn, inColumn}
@@ -40,7 +40,8 @@ besideAt xs ix k = indexAt xs ix then need (ltb k (countIn xs)) outOfTurn 0
 unfoldable pub tableLook : Columns → List ℕ → ℕ → ℕ → Looked
 tableLook columns b at tag =
     inColumn (columnIn tag (take (columns .count) (columns .tags)))
-    (λ c. recordLook (slotsFrom (take (columns .count) (columns .forms)) (take (columns .count) (columns .flags))) b at c)
+    (λ c. recordLook
+    (slotsFrom (take (columns .count) (columns .forms)) (take (columns .count) (columns .flags))) b at c)
 
 -- ---- judge_index and judge_beside
 
@@ -73,18 +74,23 @@ module _ (b ix : List ℕ) (u : Verdict) (ue : u ≡ kindAt ix) where
       module _ (x : l ≡ length b) (s t : ℕ) (se : s ≡ wordOf 4 (drop 8 ix)) (te : t ≡ wordOf 4 (drop 4 b)) where
         pub index-serial : (s ≡ t → ⊥) → v ≡ refused wrongIndex 0 → v ≡ indexAt b ix
         unfolding indexAt
-        index-serial q e = rw (e, ← ue, z, ← ne, ← ce, eq-eqb n c y, ← le, eq-eqb l (length b) x, ← se, ← te, ne-eqb s t q)
+        index-serial q e =
+            rw (e, ← ue, z, ← ne, ← ce, eq-eqb n c y, ← le, eq-eqb l (length b) x, ← se, ← te, ne-eqb s t q)
 
-        pub index-size : s ≡ t → (length ix ≡ startsOffset + entryWidth * c → ⊥) → v ≡ refused wrongIndex 0 → v ≡ indexAt b ix
+        pub index-size : s ≡ t → (length ix ≡ startsOffset + entryWidth * c → ⊥) → v ≡ refused wrongIndex 0
+            → v ≡ indexAt b ix
         unfolding indexAt
         index-size q p e =
-            rw (e, ← ue, z, ← ne, ← ce, eq-eqb n c y, ← le, eq-eqb l (length b) x, ← se, ← te, eq-eqb s t q, ne-eqb (length ix) (startsOffset + entryWidth * c) p)
+            rw (e, ← ue, z, ← ne, ← ce, eq-eqb n c y, ← le, eq-eqb l (length b) x, ← se, ← te, eq-eqb s t q)
+            (rw (ne-eqb (length ix) (startsOffset + entryWidth * c) p))
 
-pub index-good : (b ix : List ℕ) (u : Verdict) (c n l s t : ℕ) → u ≡ kindAt ix → u ≡ clear → c ≡ wordOf 4 (drop 8 b) → n ≡ wordOf 4 ix → n ≡ c → l ≡ wordOf 4 (drop 4 ix) → l ≡ length b
-    → s ≡ wordOf 4 (drop 8 ix) → t ≡ wordOf 4 (drop 4 b) → s ≡ t → length ix ≡ startsOffset + entryWidth * c → clear ≡ indexAt b ix
+pub index-good : (b ix : List ℕ) (u : Verdict) (c n l s t : ℕ) → u ≡ kindAt ix → u ≡ clear → c ≡ wordOf 4 (drop 8 b)
+    → n ≡ wordOf 4 ix → n ≡ c → l ≡ wordOf 4 (drop 4 ix) → l ≡ length b → s ≡ wordOf 4 (drop 8 ix)
+    → t ≡ wordOf 4 (drop 4 b) → s ≡ t → length ix ≡ startsOffset + entryWidth * c → clear ≡ indexAt b ix
 unfolding indexAt
 index-good b ix u c n l s t ue z ce ne y le x se te q p =
-    rw (← ue, z, ← ne, ← ce, eq-eqb n c y, ← le, eq-eqb l (length b) x, ← se, ← te, eq-eqb s t q, eq-eqb (length ix) (startsOffset + entryWidth * c) p)
+    rw (← ue, z, ← ne, ← ce, eq-eqb n c y, ← le, eq-eqb l (length b) x, ← se, ← te, eq-eqb s t q)
+    (rw (eq-eqb (length ix) (startsOffset + entryWidth * c) p))
 
 pub ruleset indexes = (index-kind, index-count, index-length, index-serial, index-size, index-good)
 
@@ -106,14 +112,16 @@ pub ruleset besides = (beside-index, beside-none, beside-good)
 
 -- ---- start_at
 
-pub start-is : (ix : List ℕ) (offset w k r : ℕ) → w ≤ 8 → r ≡ narrowWord w (drop (offset + w * k) ix) → r ≡ startAt offset w k ix
+pub start-is : (ix : List ℕ) (offset w k r : ℕ) → w ≤ 8 → r ≡ narrowWord w (drop (offset + w * k) ix)
+    → r ≡ startAt offset w k ix
 unfolding startAt narrowWord
 start-is ix offset w k r h e = rw (le-ltb 8 w h) at e
 
 -- ---- look_column and look_at
 
 module _ (b forms flags : List ℕ) (at c : ℕ) where
-  pub column-out : length b ≤ at → looked.Refused (record { number = wrongIndex; place = 0 }) ≡ recordLook (slotsFrom forms flags) b at c
+  pub column-out : length b ≤ at
+      → looked.Refused (record { number = wrongIndex; place = 0 }) ≡ recordLook (slotsFrom forms flags) b at c
   unfolding recordLook
   column-out h = rw (le-ltb at (length b) h)
 
@@ -122,13 +130,15 @@ module _ (b forms flags : List ℕ) (at c : ℕ) where
     unfolding recordLook
     column-refused r z = rw (lt-ltb at (length b) h, ← ve, z)
 
-    pub column-found : (l : Looked) → v ≡ clear → l ≡ seekIn (slotsFrom forms []) c at (drop at b) → l ≡ recordLook (slotsFrom forms flags) b at c
+    pub column-found : (l : Looked) → v ≡ clear → l ≡ seekIn (slotsFrom forms []) c at (drop at b)
+        → l ≡ recordLook (slotsFrom forms flags) b at c
     unfolding recordLook
     column-found l z e = rw (lt-ltb at (length b) h, ← ve, z, seek-same forms flags c at (drop at b)) e
 
 pub ruleset columns = (column-out, column-refused, column-found)
 
-module _ (b : List ℕ) (cs : Columns) (at tag : ℕ) (f : Found) (e : f ≡ columnIn tag (take (cs .count - 0) (cs .tags))) where
+module _ (b : List ℕ) (cs : Columns) (at tag : ℕ) (f : Found)
+    (e : f ≡ columnIn tag (take (cs .count - 0) (cs .tags))) where
   found-is : columnIn tag (take (cs .count) (cs .tags)) ≡ f
   found-is = rw (sub-zero (cs .count)) at (sym e)
 
@@ -136,7 +146,9 @@ module _ (b : List ℕ) (cs : Columns) (at tag : ℕ) (f : Found) (e : f ≡ col
   unfolding tableLook
   look-none z = rw (found-is, z)
 
-  pub look-found : (c : ℕ) (r : Looked) → f ≡ At c → r ≡ recordLook (slotsFrom (take (cs .count - 0) (cs .forms)) (take (cs .count - 0) (cs .flags))) b at c → r ≡ tableLook cs b at tag
+  pub look-found : (c : ℕ) (r : Looked) → f ≡ At c
+      → r ≡ recordLook (slotsFrom (take (cs .count - 0) (cs .forms)) (take (cs .count - 0) (cs .flags))) b at c
+      → r ≡ tableLook cs b at tag
   unfolding tableLook
   look-found c r z q = rw (found-is, z) (rw (sub-zero (cs .count)) at q)
 
@@ -204,16 +216,16 @@ module _ (b ix : List ℕ) (k : ℕ) (t : Tables) (te : t ≡ tablesIn b) where
 
 -- the address columns reach as far as their count
 module _ (b : List ℕ) (t : Tables) (te : t ≡ tablesIn b) (z : t .verdict ≡ clear) where
-  pub tags-reach : t .address .count ≤ length (t .address .tags)
-  tags-reach = rw (address-are b t te z) (reach-tags (colsIn (drop 12 b)))
+  pub tags-there : t .address .count ≤ length (t .address .tags)
+  tags-there = tags-reach (t .address) (colsIn (drop 12 b)) (address-are b t te z)
 
-  pub forms-reach : t .address .count ≤ length (t .address .forms)
-  forms-reach = rw (address-are b t te z) (reach-forms (colsIn (drop 12 b)))
+  pub forms-there : t .address .count ≤ length (t .address .forms)
+  forms-there = forms-reach (t .address) (colsIn (drop 12 b)) (address-are b t te z)
 
-  pub flags-reach : t .address .count ≤ length (t .address .flags)
-  flags-reach = rw (address-are b t te z) (reach-bits (colsIn (drop 12 b)))
+  pub flags-there : t .address .count ≤ length (t .address .flags)
+  flags-there = flags-reach (t .address) (colsIn (drop 12 b)) (address-are b t te z)
 
-pub ruleset reaches = (tags-reach, forms-reach, flags-reach)
+pub ruleset reaches = (tags-there, forms-there, flags-there)
 
 pub ruleset entered = (entry-front, entry-beside, entry-out, entry-good)
 

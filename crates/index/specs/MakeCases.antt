@@ -147,7 +147,9 @@ module _ (b d : List ℕ) (j : Judgement) (e : j ≡ judgedOf b) where
       size = startsOffset + entryWidth * c
 
       size-is : length (indexOf (bookIn b)) ≡ size
-      size-is = own-long b (octets-from b o) (good .clears) ∙ ap (λ (n : ℕ). startsOffset + entryWidth * n) (sym (good .count))
+      size-is =
+          own-long b (octets-from b o) (good .clears)
+          ∙ ap (λ (n : ℕ). startsOffset + entryWidth * n) (sym (good .count))
 
       verdict-by : makeAt b d ≡ need (leb size (length d)) noRoom 0
       unfolding makeAt
@@ -172,7 +174,8 @@ module _ (b d : List ℕ) (j : Judgement) (e : j ≡ judgedOf b) where
         entries-are =
             let n : c ≡ length (bookIn b .rows) = good .count ∙ sym (rows-count b) in
             let p : (k : ℕ) → k < c → walkTo k f (drop f b) ≡ placeOf (bookIn b) k = λ k h.
-            walk-place b k f (good .first) ∙ sym (own-place b (octets-from b o) (good .clears) k (omega (arith, good .count))) in
+            walk-place b k f (good .first)
+            ∙ sym (own-place b (octets-from b o) (good .clears) k (omega (arith, good .count))) in
             ap (entriesOf entryWidth)
             (listed-same c (λ k. walkTo k f (drop f b)) (placeOf (bookIn b)) p
             ∙ ap (λ (m : ℕ). listed m (placeOf (bookIn b))) n)

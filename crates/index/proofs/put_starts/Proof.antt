@@ -14,7 +14,9 @@ use Rattle.octets.proofs.put_word.Reads as put-word-reads
 use Rattle.octets.proofs.word32.Reads as word32-reads
 
 abbrev Inv-loop : tie.InvT-loop
-Inv-loop out₀ at width book first count k₀ to₀ i₀ out k to i = (k ≤ count) × (i ≤ first + k * 2 ^ 32) × (length out ≡ length out₀) × (to ≡ at + width * k) × (i ≡ walkTo k first (drop first book)) × (out ≡ stored out₀ at (walked width k first (drop first book)))
+Inv-loop out₀ at width book first count k₀ to₀ i₀ out k to i =
+    (k ≤ count) × (i ≤ first + k * 2 ^ 32) × (length out ≡ length out₀) × (to ≡ at + width * k)
+    × (i ≡ walkTo k first (drop first book)) × (out ≡ stored out₀ at (walked width k first (drop first book)))
 
 abbrev μ-loop : tie.MeasureT-loop
 μ-loop out₀ at width book first count k₀ to₀ i₀ out k to i = count - k

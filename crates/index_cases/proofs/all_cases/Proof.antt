@@ -12,7 +12,8 @@ use Rattle.lines.proofs.put.Reads as put-reads
 
 abbrev Inv-loop : tie.InvT-loop
 Inv-loop case₀ book₀ index₀ buf₀ out₀ n₀ m₀ at₀ k₀ case book index buf out n m at k =
-    (k ≤ 100000) × (length book ≡ length book₀) × (length index ≡ length index₀) × (n ≤ length book) × (m ≤ length index)
+    (k ≤ 100000) × (length book ≡ length book₀) × (length index ≡ length index₀) × (n ≤ length book)
+    × (m ≤ length index)
 
 abbrev μ-loop : tie.MeasureT-loop
 μ-loop case₀ book₀ index₀ buf₀ out₀ n₀ m₀ at₀ k₀ case book index buf out n m at k = 100000 - k
