@@ -655,11 +655,23 @@ def index_spoilt(stream, rng, table):
     for k in range(len(table[3])):
         for book, refusal in indexes.spoilt(table, k):
             assert stream.ask(book, index, k, rng.choice(tags)) == ('refused',) + refusal
+            assert stream.entry(book, index, k) == ('at', oab.word(index, indexes.FRONT + oab.INDEX_WIDTH * k, 3))
             assert stream.ask(book, index, k, 0) == ('refused', 15, 0)
             for i in range(len(table[3])):
                 if i != k:
                     asked = rng.choice(tags)
                     assert stream.ask(book, index, i, asked) == oab.lookup(books.octets_of(table), i, asked)
+
+
+def index_exchanged(stream, table):
+    """The starts of two records exchanged: whose value that is nobody promises (decision 44)."""
+    book = books.octets_of(table)
+    places = [record.place for record in oab.read_book(book).records]
+    index = indexes.with_entry(indexes.with_entry(indexes.own(book), 0, places[1]), 1, places[0])
+    for k in (0, 1):
+        assert stream.entry(book, index, k) == ('at', places[1 - k])
+        for tag, _ in table[1]:
+            assert stream.ask(book, index, k, tag) == oab.lookup(book, 1 - k, tag)
 
 
 def index_tables(stream, rng):
@@ -689,6 +701,7 @@ def make_index():
         index_own(stream, rng, table)
         index_wrong(stream, rng, table, books.sample_book() if table is small else books.small_book())
         index_spoilt(stream, rng, table)
+    index_exchanged(stream, sample)
     for _ in range(60):
         table = books.some_table(rng, records=rng.choice((1, 2, 3, 5)), most=4)
         index_own(stream, rng, table)

@@ -357,7 +357,7 @@ def lookup(book, record, tag):
     return ('absent',) if stretch is None else ('at',) + stretch
 
 
-# ---------------------------------------------------------------- a saved index (request 103, decisions 45 to 47)
+# ---------------------------------------------------------------- a saved index (request 103, decisions 41 to 47)
 
 INDEX_OFFSET = 16         # where the starts begin: behind four fields of four octets
 INDEX_WIDTH = 3           # octets of a start
