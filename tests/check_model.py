@@ -142,6 +142,22 @@ def check_refusals():
     assert oab.judge(bytes(oab.LIMIT)) == ('refused', 3, 0)
 
 
+def check_indexes():
+    """By hand, from document 02: count, length, serial, 16, and the places that the books' listings have."""
+    for book, places in ((books.small_book(), '3F0000'), (books.sample_book(), 'AA0000 2A0100')):
+        front = oab.four(book[8]) + len(book).to_bytes(4, 'little') + book[4:8] + b'\x10\0\0\0'
+        index = front + bytes.fromhex(places)
+        assert oab.make_index(book, len(index)) == ('made', index)
+        assert oab.make_index(book, len(index) - 1) == ('refused', 17, 0)
+        for k in range(book[8]):
+            assert oab.index_entry(book, index, k) == ('at', oab.word(index, 16 + 3 * k, 3))
+            for tag, _ in oab.table_of(book)[1]:
+                assert oab.lookup_indexed(book, index, k, tag) == oab.lookup(book, k, tag)
+        assert oab.lookup_indexed(book, index, book[8], 0x39FE001F) == ('refused', 15, 0)
+        assert oab.lookup_indexed(book, index[:-1], 0, 0x39FE001F) == ('refused', 19, 0)
+        assert oab.lookup_indexed(book, index[:-3] + b'\xFF\xFF\xFF', book[8] - 1, 0x39FE001F) == ('refused', 19, 0)
+
+
 def check_writing():
     """The calls lay down the same octets as the book written at once."""
     rng = random.Random(5)
@@ -195,6 +211,6 @@ def check_length_limit():
 
 if __name__ == '__main__':
     for check in (check_serial, check_document_cases, check_numbers, check_utf8, check_books, check_refusals,
-                  check_writing, check_count_limit, check_length_limit):
+                  check_indexes, check_writing, check_count_limit, check_length_limit):
         check()
     print('the model holds')
