@@ -320,6 +320,7 @@ static int find_all(struct search *f)
         size_t start = entry[0] | (size_t)entry[1] << 8 | (size_t)entry[2] << 16, size = number_at(x->book.at + start);
         const uint8_t *searched = x->book.at + start;
         size_t hit;
+        show_progress(f->c, k, count, "records");
         if (f->alike) {
             f->copy.length = 0;
             if (!add(&f->copy, searched, size)) return fail(x->name, "%s", strerror(errno));
@@ -330,7 +331,6 @@ static int find_all(struct search *f)
         if (hit > size) continue;
         if (f->tagged) result = find_value(f, k, f->tag, start, searched);
         else result = find_in_record(f, k, start, size, searched, hit);
-        show_progress(f->c, k + 1, count, "records");
     }
     progress_ends();
     return result;

@@ -76,11 +76,36 @@ def stopped(folder):
     differs('some were stopped', True, stops > 5)
 
 
+def places_in(octets):
+    """Where the records of the big book start, by their sizes."""
+    places = [44]
+    while places[-1] + oab.word(octets, places[-1]) < len(octets):
+        places.append(places[-1] + oab.word(octets, places[-1]))
+    return places
+
+
+def big_indexed(path, octets, count):
+    """The index of a book of the greatest length, and the last record through it."""
+    index = path.with_suffix('.saved')
+    places = places_in(octets)
+    want = oab.four(count) + oab.four(len(octets)) + octets[4:8] + oab.four(16)
+    want += b''.join(place.to_bytes(3, 'little') for place in places)
+    differs('index', (0, b''), run('index', '-o', index, path)[:2])
+    differs('its octets', (True, count), (want == content(index), len(places)))
+    differs('get --index', (0, b'last\n'), run('get', '--index', index, path, count - 1, 'SmtpAddress')[:2])
+    status, shown, _ = run('show', '--index', index, path, 0)
+    differs('show --index', (0, b'0\t39FE001F\ttext\t000000@example'), (status, shown.splitlines()[0]))
+    differs('find', (0, b'%d\t39FE001F\tlast\n' % (count - 1)), run('find', path, 'last')[:2])
+    found = run('find', '-t', 'SmtpAddress', path, '@')
+    differs('find in all', (0, count - 1), (found[0], found[1].count(b'\n')))
+
+
 def big(folder):
     octets, count = big_book()
     assert len(octets) == 16_777_216
     path = folder / 'big'
     path.write_bytes(octets)
+    big_indexed(path, octets, count)
     differs('16 MiB', (0, f'{path}: good, 16777216 octets, {count} records\n'.encode()), run('check', path)[:2])
     listed = run('list', path)
     differs('its listing', (0, count + 2), (listed[0], listed[1].count(b'\n')))
