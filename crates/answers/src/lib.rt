@@ -1,5 +1,5 @@
-// The answers' one vocabulary: a refusal is its number and its place, a verdict is clear or a refusal, a walk over a value ends or breaks, what was made
-// has a length.
+// The answers' one vocabulary: a refusal is its number and its place, a verdict is clear or a refusal, a walk over a
+// value ends or breaks, what was made has a length.
 // Each refusal number and each house limit is named here, and nowhere else in code.
 ghost use mathlib.Core.Path.{_≡_};
 ghost use Rattle.answers.specs.Verdict.{refused};

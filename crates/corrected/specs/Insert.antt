@@ -131,7 +131,8 @@ pub record InsertDone (d : List ℕ) (len k : ℕ) (new : List ℕ) (m : ℕ) : 
   pub may : InsertMay d len k new
   pub corrects : Corrects d len (insertOctets d len k new) m (may .on .book) (edit k 0 (may .row ∷ []) (may .on .book))
 
-from-may : (d : List ℕ) (len k : ℕ) (new : List ℕ) (m : ℕ) → InsertMay d len k new → insertAnswer d len k new ≡ made.Done m → InsertDone d len k new m
+from-may : (d : List ℕ) (len k : ℕ) (new : List ℕ) (m : ℕ) → InsertMay d len k new
+    → insertAnswer d len k new ≡ made.Done m → InsertDone d len k new m
 unfolding insertAnswer insertOctets
 from-may d len k new m x h =
     let b : Book = x .on .book in
@@ -143,5 +144,6 @@ from-may d len k new m x h =
     }
 
 -- Inserting a record before record k, k up to the count: where the call is answered with a new length it leaves the corrected book.
-pub insert-done : (d : List ℕ) → Octets d → (len k : ℕ) (new : List ℕ) → Octets new → (m : ℕ) → insertAnswer d len k new ≡ made.Done m → InsertDone d len k new m
+pub insert-done : (d : List ℕ) → Octets d → (len k : ℕ) (new : List ℕ) → Octets new → (m : ℕ)
+    → insertAnswer d len k new ≡ made.Done m → InsertDone d len k new m
 insert-done d od len k new o m h = from-may d len k new m (insert-may d len k new od o m h) h

@@ -112,7 +112,8 @@ pub record SetDone (d : List ℕ) (len : ℕ) (which : Which) (t : ℕ) (e : Opt
   pub may : SetMay d len which t e
   pub corrects : Corrects d len (setOctets d len which t e) m (may .on .book) (setTo which (may .column) e (may .on .book))
 
-from-may : (d : List ℕ) (len : ℕ) (which : Which) (t : ℕ) (e : Option (List ℕ)) (m : ℕ) → SetMay d len which t e → setAnswer d len which t e ≡ made.Done m → SetDone d len which t e m
+from-may : (d : List ℕ) (len : ℕ) (which : Which) (t : ℕ) (e : Option (List ℕ)) (m : ℕ)
+    → SetMay d len which t e → setAnswer d len which t e ≡ made.Done m → SetDone d len which t e m
 unfolding setAnswer setOctets
 from-may d len which t e m x h =
     let b : Book = x .on .book in
@@ -125,5 +126,6 @@ from-may d len which t e m x h =
     }
 
 -- Setting or clearing a value in an address record or the header record: where the call is answered with a new length it leaves the corrected book.
-pub set-done : (d : List ℕ) → Octets d → (len : ℕ) (which : Which) (t : ℕ) (e : Option (List ℕ)) → Offers e → (m : ℕ) → setAnswer d len which t e ≡ made.Done m → SetDone d len which t e m
+pub set-done : (d : List ℕ) → Octets d → (len : ℕ) (which : Which) (t : ℕ) (e : Option (List ℕ)) → Offers e → (m : ℕ)
+    → setAnswer d len which t e ≡ made.Done m → SetDone d len which t e m
 set-done d od len which t e o m h = from-may d len which t e m (set-may d len which t e od o m h) h

@@ -31,7 +31,8 @@ use Rattle.editing.specs.Put.{bufferOf}
 use Rattle.editing.specs.Entry.{entryAt}
 use Rattle.editing.specs.Done.{slotsUnder, setTo, set-same}
 use Rattle.lookup.specs.Named.{There}
-use Rattle.correcting.specs.Correct.{setAt, setBook, setAnswer, setOctets, insertAt, insertBook, insertAnswer, insertOctets, deleteAt, deleteBook, deleteAnswer, deleteOctets}
+use Rattle.correcting.specs.Correct.{setAt, setBook, setAnswer, setOctets, insertAt, insertBook, insertAnswer}
+use Rattle.correcting.specs.Correct.{insertOctets, deleteAt, deleteBook, deleteAnswer, deleteOctets}
 use Rattle.corrected.specs.Buffer.{buffer-same}
 use Rattle.corrected.specs.Named.{row-sound, slots-reach}
 use Rattle.corrected.specs.Call.{BookIn}
@@ -41,17 +42,20 @@ use Rattle.corrected.specs.Handed.{refused, handedBy, handedOf, entryOn,
 -- ---- a refused call
 
 -- A refused set or clear changes no octet.
-pub set-refused : (d : List ℕ) (len : ℕ) (which : Which) (t : ℕ) (e : Option (List ℕ)) (r : Refusal) → setAnswer d len which t e ≡ made.Refused r → setOctets d len which t e ≡ d
+pub set-refused : (d : List ℕ) (len : ℕ) (which : Which) (t : ℕ) (e : Option (List ℕ)) (r : Refusal)
+    → setAnswer d len which t e ≡ made.Refused r → setOctets d len which t e ≡ d
 unfolding setAnswer setOctets
 set-refused d len which t e r q = refused-keeps (setAt d len which t e) (length (setBook d len which t e)) r d (bufferOf d len (setBook d len which t e)) q
 
 -- Nor does a refused insert.
-pub insert-refused : (d : List ℕ) (len k : ℕ) (new : List ℕ) (r : Refusal) → insertAnswer d len k new ≡ made.Refused r → insertOctets d len k new ≡ d
+pub insert-refused : (d : List ℕ) (len k : ℕ) (new : List ℕ) (r : Refusal) → insertAnswer d len k new ≡ made.Refused r
+    → insertOctets d len k new ≡ d
 unfolding insertAnswer insertOctets
 insert-refused d len k new r q = refused-keeps (insertAt d len k new) (length (insertBook d len k new)) r d (bufferOf d len (insertBook d len k new)) q
 
 -- Nor a refused delete.
-pub delete-refused : (d : List ℕ) (len k : ℕ) (r : Refusal) → deleteAnswer d len k ≡ made.Refused r → deleteOctets d len k ≡ d
+pub delete-refused : (d : List ℕ) (len k : ℕ) (r : Refusal) → deleteAnswer d len k ≡ made.Refused r
+    → deleteOctets d len k ≡ d
 unfolding deleteAnswer deleteOctets
 delete-refused d len k r q = refused-keeps (deleteAt d len k) (length (deleteBook d len k)) r d (bufferOf d len (deleteBook d len k)) q
 
@@ -109,7 +113,8 @@ module _ (d : List ℕ) (len : ℕ) (which : Which) (t : ℕ) (e : Option (List 
         room = omega arith;
       }
 
-  same-set : (x : SetMay d len which t e) → entryAt (rowFor (x .on .book) which) (x .column) ≡ e → (setAnswer d len which t e ≡ made.Done len) × (setOctets d len which t e ≡ d)
+  same-set : (x : SetMay d len which t e) → entryAt (rowFor (x .on .book) which) (x .column) ≡ e
+      → (setAnswer d len which t e ≡ made.Done len) × (setOctets d len which t e ≡ d)
   unfolding setOctets
   same-set x q =
       let b : Book = x .on .book in
@@ -120,7 +125,8 @@ module _ (d : List ℕ) (len : ℕ) (which : Which) (t : ℕ) (e : Option (List 
         ap (λ (v : Verdict). kept v d (bufferOf d len (setBook d len which t e))) (set-clear d len which t e x) ∙ ap (bufferOf d len) y ∙ buffer-same d len (x .on .whole),
       )
 
-  from-book : (x : BookIn d len) → handedOf (bookOctets (x .book)) which t ≡ entryOn e → (setAnswer d len which t e ≡ made.Done len) × (setOctets d len which t e ≡ d)
+  from-book : (x : BookIn d len) → handedOf (bookOctets (x .book)) which t ≡ entryOn e
+      → (setAnswer d len which t e ≡ made.Done len) × (setOctets d len which t e ≡ d)
   unfolding same-may
   from-book x q =
       let h : There (x .book) which = handed-there d len x which t e q in
@@ -146,6 +152,7 @@ clear-absent d o len h which t q = unchanged d o len h which t none (ap (handedB
 
 -- Setting the value that is there, which is the stretch of a lookup.
 pub set-again : (d : List ℕ) → Octets d → (len : ℕ) → len ≤ length d → (which : Which) (t s f : ℕ) → lookupOf (take len d) which t ≡ looked.At s f
-    → (setAnswer d len which t (some (stretchOf (take len d) which t)) ≡ made.Done len) × (setOctets d len which t (some (stretchOf (take len d) which t)) ≡ d)
+    → (setAnswer d len which t (some (stretchOf (take len d) which t)) ≡ made.Done len)
+    × (setOctets d len which t (some (stretchOf (take len d) which t)) ≡ d)
 unfolding handedOf stretchOf
 set-again d o len h which t s f q = unchanged d o len h which t (some (stretchOf (take len d) which t)) (rw q)

@@ -390,7 +390,8 @@ plan-found b room which t e q p z =
 -- ---- correct
 
 module _ (d v : List ℕ) (len tag : ℕ) (which : Which) (t : Bool) where
-  pub set-short : length d < len → (r : Refusal) → r ≡ record { number = outOfTurn; place = 0 } → made.Refused r ≡ setAnswer d len which tag (offered t v)
+  pub set-short : length d < len → (r : Refusal) → r ≡ record { number = outOfTurn; place = 0 }
+      → made.Refused r ≡ setAnswer d len which tag (offered t v)
   unfolding setAnswer setVerdict bookAt
   set-short h r q = rw (lt-leb len (length d) h, q)
 

@@ -313,7 +313,8 @@ delete-verdict d len k h =
 -- ---- insert
 
 module _ (d new : List ℕ) (len k : ℕ) where
-  pub insert-short : length d < len → (r : Refusal) → r ≡ record { number = outOfTurn; place = 0 } → made.Refused r ≡ insertAnswer d len k new
+  pub insert-short : length d < len → (r : Refusal) → r ≡ record { number = outOfTurn; place = 0 }
+      → made.Refused r ≡ insertAnswer d len k new
   unfolding insertAnswer insertAt bookAt
   insert-short h r q = rw (lt-leb len (length d) h, q)
 
@@ -370,7 +371,8 @@ module _ (d new : List ℕ) (len k : ℕ) where
 -- ---- delete
 
 module _ (d : List ℕ) (len k : ℕ) where
-  pub delete-short : length d < len → (r : Refusal) → r ≡ record { number = outOfTurn; place = 0 } → made.Refused r ≡ deleteAnswer d len k
+  pub delete-short : length d < len → (r : Refusal) → r ≡ record { number = outOfTurn; place = 0 }
+      → made.Refused r ≡ deleteAnswer d len k
   unfolding deleteAnswer deleteAt bookAt
   delete-short h r q = rw (lt-leb len (length d) h, q)
 
