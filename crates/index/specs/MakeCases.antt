@@ -24,7 +24,7 @@ use Rattle.book.specs.Good.{GoodIs, good-is, refused-by, good-keeps}
 use Rattle.book.specs.declared.Judgement.{Judgement}
 use Rattle.book.specs.declared.Judged.the-variants as judged
 use Rattle.lookup.specs.Places.{walkTo, placeOf, placeIn}
-use Rattle.lookup.specs.PlaceCases.{walk-more}
+use Rattle.lookup.specs.PlaceCases.{walk-more, number-start}
 use Rattle.lookup.specs.Cases.{walk-place}
 use Rattle.index.specs.Index.{startsOffset, entryWidth, fieldsOf, entriesOf, listed, startsOf, indexOf, makeAt}
 use Rattle.index.specs.Index.{makeAnswer, makeOctets, serialIn}
@@ -108,11 +108,7 @@ to-fits w k n at to l e h g b = record { fits = let r = entry-room w k n at to l
 pub walked-at : (at w : ℕ) → at ≡ at + w * 0
 walked-at at w = rw (mul-zero w) (sym (add-zero at))
 
-pub walk-at : (f : ℕ) (xs : List ℕ) → f ≡ walkTo 0 f xs
-unfolding walkTo
-walk-at f xs = refl
-
-pub ruleset walkings = (walked-none, walked-next, walked-on, walked-goes, walked-end, walked-at, walk-at)
+pub ruleset walkings = (walked-none, walked-next, walked-on, walked-goes, walked-end, walked-at, number-start)
 
 -- ---- make_index
 
