@@ -11,8 +11,10 @@
 
 enum { NUMBERS_MET = 20 };
 static unsigned judged, mended, indexed, differ, met[NUMBERS_MET], answers[NUMBERS_MET], looked[NUMBERS_MET];
-static uint8_t kept[16 + 3 * 65535]; /* the index of the good book, for all that is made of it */
-static size_t kept_length;
+/* the index of the good book and an old one of it, for all that is made of the book */
+enum { NEW, OLD, KINDS };
+static uint8_t kept[KINDS][OFFSET + WIDTH * 65535];
+static size_t kept_length[KINDS];
 static uint32_t seed;
 
 static uint32_t chance(uint32_t below) {
@@ -20,19 +22,29 @@ static uint32_t chance(uint32_t below) {
     return (seed >> 8) % below;
 }
 
-/* the index of the book that stands there, and a lookup through the index of the good one */
+static void keep_indexes(const struct book *b) {
+    if (plain_index(b->octets, b->length, kept[NEW], sizeof kept[NEW], &kept_length[NEW]).number != 0) differ++;
+    memcpy(kept[OLD], kept[NEW], 12);
+    put_word32(kept[OLD] + 12, OLD_OFFSET);
+    for (size_t k = 0; k < b->records; k++)
+        memcpy(kept[OLD] + OLD_OFFSET + OLD_WIDTH * k, kept[NEW] + OFFSET + WIDTH * k, OLD_WIDTH);
+    kept_length[OLD] = OLD_OFFSET + OLD_WIDTH * b->records;
+}
+
+/* the index of the book that stands there, and a lookup through one of the good one */
 static void compare_indexed(const struct book *b) {
-    static uint8_t made[sizeof kept], plain[sizeof kept];
+    static uint8_t made[sizeof kept[NEW]], plain[sizeof kept[NEW]];
     wt_length length;
     wt_found found;
-    size_t n, k = indexed % b->records;
+    size_t n, k = indexed / KINDS % b->records;
+    int kind = indexed % KINDS;
     struct stretch s;
     struct refusal r = plain_index(b->octets, b->length, plain, sizeof plain, &n);
     uint32_t number = wt_index(b->octets, b->length, made, sizeof made, &length);
     if (number != r.number || length.place != (number ? r.place : 0) || length.length != n || memcmp(made, plain, n))
         differ++;
-    r = plain_lookup_indexed(b->octets, b->length, kept, kept_length, k, b->tag, &s);
-    number = wt_lookup_indexed(b->octets, b->length, kept, kept_length, k, b->tag, &found);
+    r = plain_lookup_indexed(b->octets, b->length, kept[kind], kept_length[kind], k, b->tag, &s);
+    number = wt_lookup_indexed(b->octets, b->length, kept[kind], kept_length[kind], k, b->tag, &found);
     looked[number]++;
     indexed++;
     if (number != r.number || found.place != (number ? r.place : 0) || found.start != s.start || found.end != s.end)
@@ -170,7 +182,7 @@ int agree(void) {
     for (enum shape s = 0; s < SHAPES; s++) {
         struct book b = make_book(s, 20000);
         seed = 1 + s;
-        if (plain_index(b.octets, b.length, kept, sizeof kept, &kept_length).number != 0) differ++;
+        keep_indexes(&b);
         compare(&b);
         damage(&b);
         cut(&b);
@@ -179,7 +191,7 @@ int agree(void) {
         free(b.octets);
     }
     say("books judged and looked up", judged, met);
-    say("indexes made, and lookups through that of the good book", indexed, looked);
+    say("indexes made, and lookups through that of the good book, new and old", indexed, looked);
     say("corrections", mended, answers);
     printf("%d books written again; %u differ\n", SHAPES, differ);
     return differ != 0;

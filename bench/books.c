@@ -25,6 +25,10 @@ static void put32(size_t place, uint32_t x) {
     for (int k = 0; k < 4; k++) out[place + k] = (uint8_t)(x >> 8 * k);
 }
 
+static uint32_t word_at(size_t place) {
+    return out[place] | (uint32_t)out[place + 1] << 8 | (uint32_t)out[place + 2] << 16 | (uint32_t)out[place + 3] << 24;
+}
+
 static void word32(uint32_t x) {
     put32(at, x);
     at += 4;
@@ -85,6 +89,9 @@ static const uint16_t types[36] = {
 
 static uint32_t tag_of(size_t i) { return (uint32_t)(0x3000 + i) << 16 | types[i]; }
 
+/* how many proxies the first person has: in a long book they take what 65,535 people can't */
+static size_t many;
+
 static void person(size_t k) {
     uint8_t has[36] = {0};
     /* the first twelve always, and eight of the others */
@@ -108,7 +115,7 @@ static void person(size_t k) {
         case 0x0003: number(chance(3) ? chance(200) : chance(1u << 30)); break;
         case 0x000B: put((uint8_t)chance(2)); break;
         case 0x0102: binary(16 + chance(24)); break;
-        case 0x101F: proxies(k == 0 ? 300 : 1 + chance(4)); break;
+        case 0x101F: proxies(k == 0 ? many : 1 + chance(4)); break;
         case 0x101E: proxies(1 + chance(2)); break;
         case 0x1102: number(1), binary(60 + chance(80)); break;
         default: /* 1003 */
@@ -176,6 +183,7 @@ struct book make_book(enum shape shape, size_t length) {
         head(36);
         for (size_t i = 0; i < 36; i++) word32(tag_of(i)), word32(i == 1 ? 2 : 0);
         header_record();
+        many = 300 + (length < (size_t)1 << 25 ? 0 : (length - ((size_t)1 << 25)) / 36);
         for (;;) {
             size_t before = at;
             person(b.records);
@@ -217,7 +225,7 @@ struct book make_book(enum shape shape, size_t length) {
     if (shape == REALISTIC) {
         size_t r = 24 + 8 * 37;
         r += out[r];
-        for (size_t k = 1; k < b.records; k++) r += out[r] | (size_t)out[r + 1] << 8 | (size_t)out[r + 2] << 16;
+        for (size_t k = 1; k < b.records; k++) r += word_at(r);
         for (size_t i = 0; i < 36; i++)
             if (out[r + 4 + i / 8] >> (7 - i % 8) & 1) b.tag = tag_of(i);
     }

@@ -1,4 +1,4 @@
-/* Making an index beside judging, on every shape; a lookup through it in the realistic book of 1, 4 and 16 MiB. */
+/* Making an index beside judging, on every shape; a lookup through it in the realistic book of 1, 16 and 256 MiB. */
 #include "indexed.h"
 #include "../include/windtrellis.h"
 #include "books.h"
@@ -9,7 +9,7 @@
 
 enum { JUDGING, MAKING, WORKS };
 enum { LIBRARY, PLAIN, SIDES };
-enum { MOST_INDEX = 16 + 3 * 65535, ASKED = 256, ROUNDS = 20 };
+enum { MOST_INDEX = OFFSET + WIDTH * 65535, ASKED = 256, ROUNDS = 20 };
 
 static uint8_t index_of[SIDES][MOST_INDEX];
 static volatile size_t sink;
@@ -54,12 +54,12 @@ static void making(int turns) {
     }
 }
 
-/* the same number of records of each book, spread over all of it, one after the other and again */
+/* the same number of records of each book, spread over all of it but the first, one after the other and again */
 static double asking(const struct book *b, size_t m, int side) {
     double start = now();
     for (int r = 0; r < ROUNDS; r++)
         for (size_t i = 0; i < ASKED; i++) {
-            size_t k = i * (b->records - 1) / (ASKED - 1);
+            size_t k = 1 + i * (b->records - 2) / (ASKED - 1);
             const uint8_t *index = index_of[side];
             struct stretch s;
             wt_found found;
@@ -75,7 +75,7 @@ void indexed(int turns) {
     printf("\nlookup through the index, %d records spread over the book: microseconds, beside the smallest book; "
         "library / C\n", ASKED);
     for (int size = 0; size < 3; size++) {
-        struct book b = make_book(REALISTIC, (size_t)1 << (20 + 2 * size));
+        struct book b = make_book(REALISTIC, (size_t)1 << (20 + 4 * size));
         double t[SIDES] = {1e9, 1e9};
         size_t m[SIDES];
         for (int side = 0; side < SIDES; side++) m[side] = work(&b, MAKING, side);

@@ -13,34 +13,45 @@ struct refusal plain_index(const uint8_t *book, size_t n, uint8_t *index, size_t
     *length = 0;
     if (r.number) return r;
     size_t count = word32(book + 8), at = t.at + word32(book + t.at);
-    if (room < 16 + 3 * count) return refuse(17, 0);
+    if (room < OFFSET + WIDTH * count) return refuse(17, 0);
     put_word32(index, count);
     put_word32(index + 4, n);
     put_word32(index + 8, word32(book + 4));
-    put_word32(index + 12, 16);
-    for (uint8_t *to = index + 16; to < index + 16 + 3 * count; to += 3) {
-        for (int k = 0; k < 3; k++) to[k] = (uint8_t)(at >> 8 * k);
+    put_word32(index + 12, OFFSET);
+    put_word32(index + 16, WIDTH);
+    for (uint8_t *to = index + OFFSET; to < index + OFFSET + WIDTH * count; to += WIDTH) {
+        put_word32(to, at);
         at += word32(book + at);
     }
-    *length = 16 + 3 * count;
+    *length = OFFSET + WIDTH * count;
     return refuse(0, 0);
+}
+
+/* the width of an entry, 0 where the index isn't the book's */
+static size_t width_of(const uint8_t *book, size_t n, const uint8_t *index, size_t m, size_t count) {
+    size_t width = 0;
+    if (m < OLD_OFFSET || word32(index) != count || word32(index + 4) != n || word32(index + 8) != word32(book + 4))
+        return 0;
+    if (word32(index + 12) == OLD_OFFSET && n <= OLD_MOST) width = OLD_WIDTH;
+    if (word32(index + 12) == OFFSET && OFFSET <= m && word32(index + 16) == WIDTH) width = WIDTH;
+    return m == word32(index + 12) + width * count ? width : 0;
 }
 
 struct refusal plain_lookup_indexed(const uint8_t *book, size_t n, const uint8_t *index, size_t m, size_t k,
     uint32_t tag, struct stretch *found) {
     struct tables t;
     struct refusal r = read_tables(book, n, &t);
-    size_t count, column, size, at;
+    size_t count, width, column, size, at;
     found->start = found->end = 0;
     if (r.number) return r;
     count = word32(book + 8);
-    if (m != 16 + 3 * count || word32(index) != count || word32(index + 4) != n || word32(index + 12) != 16 ||
-        word32(index + 8) != word32(book + 4))
-        return refuse(19, 0);
+    width = width_of(book, n, index, m, count);
+    if (width == 0) return refuse(19, 0);
     column = find_column(&t.address, tag);
     if (count <= k || column == t.address.count) return refuse(15, 0);
-    index += 16 + 3 * k;
+    index += word32(index + 12) + width * k;
     at = index[0] | (size_t)index[1] << 8 | (size_t)index[2] << 16;
+    if (width == WIDTH) at |= (size_t)index[3] << 24;
     if (n <= at) return refuse(19, 0);
     r = judge_record(book, n, at, &t.address, 1, &size);
     if (r.number) return r;

@@ -4,7 +4,7 @@
 
 #include "reader.h"
 
-#define MOST_OCTETS 16777216u
+#define MOST_OCTETS 268435456u
 #define MOST_RECORDS 65535u
 #define MOST_COLUMNS 128u
 

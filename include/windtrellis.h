@@ -36,13 +36,13 @@ extern "C" {
 
 /* 10,000 for each version, 100 for each change that adds calls, 1 for each other one. wt_version answers that of the
  * library which the program runs with. */
-#define WT_VERSION 10100u
+#define WT_VERSION 10101u
 uint32_t wt_version(void);
 
 /* Answers. */
 enum {
     WT_DONE = 0,
-    WT_TOO_LONG = 1,       /* over 16,777,216 octets */
+    WT_TOO_LONG = 1,       /* over 268,435,456 octets */
     WT_CUT_SHORT = 2,      /* the book ends inside its header, a metadata field or a record's size */
     WT_WRONG_VERSION = 3,  /* the version isn't 0x20 */
     WT_WRONG_METADATA = 4, /* the metadata's size isn't 12 + 8 (h + a) */
@@ -65,7 +65,7 @@ enum {
 };
 
 /* House limits. */
-#define WT_MOST_OCTETS 16777216u
+#define WT_MOST_OCTETS 268435456u
 #define WT_MOST_COLUMNS 128u
 #define WT_MOST_RECORDS 65535u
 
@@ -106,11 +106,14 @@ uint32_t wt_lookup(const uint8_t *book, size_t octets, uint64_t record, uint32_t
 /* The serial of a book whose octets from 12 on are these. It answers the serial itself and refuses nothing. */
 uint32_t wt_serial(const uint8_t *octets, size_t count);
 
-/* ---- a saved index: the book's count of address records, its length, its serial and the offset of the starts, four
- * octets each, then the start of each address record in WT_INDEX_ENTRY octets; the least octet first. With it one
- * record is looked up without judging the others. */
-#define WT_INDEX_FRONT 16u
-#define WT_INDEX_ENTRY 3u
+/* ---- a saved index: the book's count of address records, its length, its serial, the offset of the starts
+ * (WT_INDEX_FRONT) and the width of a start (WT_INDEX_ENTRY), four octets each, then the start of each address record
+ * in that many octets; the least octet first. With it one record is looked up without judging the others.
+ *
+ * Before 1.1.1 an index had no width: its starts began at 16 and took three octets. One of that kind is still read,
+ * beside a book of at most 16,777,216 octets; none is made. */
+#define WT_INDEX_FRONT 20u
+#define WT_INDEX_ENTRY 4u
 
 /* The index of a book, whose length comes back; octets of the buffer behind it stay. Refusals: the book's own, then 17.
  * Room: WT_INDEX_FRONT + WT_INDEX_ENTRY * count is enough, and what it takes. */
@@ -119,12 +122,13 @@ uint32_t wt_index(const uint8_t *WT_RESTRICT book, size_t octets, uint8_t *WT_RE
 
 /* What the next two answer depends on the book's length, its header and metadata and on the index; the lookup's
  * answer on record k, too; and on nothing else. Refusals: 1, 2, 3, 13 for the count, 2, 5, 6, 7 and 4, as in
- * wt_judge; 19 at 0 where the index's offset isn't 16, or its count, its length, its serial or its own size isn't
- * that of the book; 15 for a record or a column that isn't there (the header record isn't offered here); 19 at 0
- * where the entry isn't below the book's length; and in the lookup the record's own, 2, 8, 9, 10, 11 and 12.
+ * wt_judge; 19 at 0 where the index is of neither kind, by its offset and its width, or an old one beside a longer
+ * book, or its count, its length, its serial or its own size isn't that of the book; 15 for a record or a column that
+ * isn't there (the header record isn't offered here); 19 at 0 where the entry isn't below the book's length; and in the
+ * lookup the record's own, 2, 8, 9, 10, 11 and 12.
  *
- * In a good book and with the index that wt_index makes of it, the entry is the record's place and the lookup is
- * wt_lookup. With any other pair each call still ends, and what it hands back lies in the book; whose value that is
+ * In a good book and with the index that wt_index makes of it, or an old one that was made of it, the entry is the
+ * record's place and the lookup is wt_lookup. With any other pair each call still ends, and what it hands back lies in the book; whose value that is
  * isn't promised. So an index is made anew when its book has changed. */
 typedef struct {
     uint64_t place, start;

@@ -138,7 +138,7 @@ int run_apply(const struct command *c)
     if (strcmp(file, "-") == 0 && strcmp(c->words[0], "-") == 0)
         return fail(c->name, "standard input can't be both the book and the corrections");
     result = read_file(file, &text);
-    if (result == DONE && text.length == MOST_READ) result = fail(from, "is longer than 16,777,216 octets");
+    if (result == DONE && text.length == MOST_READ) result = fail(from, "is longer than 268,435,456 octets");
     if (result == DONE && !grow(&text, 1)) result = fail(from, "%s", strerror(errno));
     if (result == DONE) result = take_lines(&all, from, &text);
     if (result == DONE) result = correct(c, from, all.at, all.count);

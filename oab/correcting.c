@@ -103,7 +103,7 @@ static int tell(const struct command *c, const struct octets *old, const struct 
 
 static int finish(const struct command *c, struct opened *b, const struct octets *old, const struct octets *book)
 {
-    int changed = old->length != book->length || memcmp(old->at, book->at, old->length) != 0;
+    int changed = c->out || old->length != book->length || memcmp(old->at, book->at, old->length) != 0;
     if (c->options & DRY) return tell(c, old, book, changed);
     if (c->out) return save(c->out, book->at, book->length);
     if (!changed) return DONE;
@@ -112,6 +112,7 @@ static int finish(const struct command *c, struct opened *b, const struct octets
     return save(b->name, book->at, book->length);
 }
 
+/* The old book is kept beside the new one where it is asked whether anything changed. */
 int correct(const struct command *c, const char *from, struct correction *all, size_t count)
 {
     struct octets book = { 0 }, old = { 0 };
@@ -120,7 +121,7 @@ int correct(const struct command *c, const char *from, struct correction *all, s
     int result = open_book(&b, name, !c->out || same_file(c->out, name));
     if (result != DONE) return result;
     result = read_opened(&b, &book);
-    if (result == DONE && !add(&old, book.at, book.length)) result = fail(name, "%s", strerror(errno));
+    if (result == DONE && !c->out && !add(&old, book.at, book.length)) result = fail(name, "%s", strerror(errno));
     if (result == DONE) result = perform_all(name, from, &book, all, count);
     if (result == DONE) result = finish(c, &b, &old, &book);
     close_book(&b);

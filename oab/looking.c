@@ -316,8 +316,8 @@ static int find_all(struct search *f)
     uint64_t k, count = number_at(x->book.at + 8);
     int result = DONE;
     for (k = 0; result == DONE && k < count; k++) {
-        const uint8_t *entry = x->index.at + WT_INDEX_FRONT + WT_INDEX_ENTRY * k;
-        size_t start = entry[0] | (size_t)entry[1] << 8 | (size_t)entry[2] << 16, size = number_at(x->book.at + start);
+        size_t start = number_at(x->index.at + WT_INDEX_FRONT + WT_INDEX_ENTRY * k);
+        size_t size = number_at(x->book.at + start);
         const uint8_t *searched = x->book.at + start;
         size_t hit;
         show_progress(f->c, k, count, "records");

@@ -1,21 +1,21 @@
-/* Octets that grow: a small book takes little memory. */
+/* Octets that grow: a book takes memory by its size. */
 #include "octets.h"
 #include <errno.h>
 #include <stdlib.h>
 #include <string.h>
 
+/* As much as is asked for, and half as much again as there was, so that many small asks cost little. */
 int grow(struct octets *o, size_t more)
 {
-    size_t room = o->room ? o->room : 64;
+    size_t room = o->room + o->room / 2;
     uint8_t *at;
     if (o->at && more <= o->room - o->length) return 1;
-    while (room - o->length < more) {
-        if (room > SIZE_MAX / 2) {
-            errno = ENOMEM;
-            return 0;
-        }
-        room *= 2;
+    if (more > SIZE_MAX - o->length) {
+        errno = ENOMEM;
+        return 0;
     }
+    if (room < o->length + more) room = o->length + more;
+    if (room < 64) room = 64;
     at = realloc(o->at, room);
     if (!at) return 0;
     o->at = at;

@@ -17,7 +17,7 @@ const char *wt_words(uint32_t number)
 {
     static const char *const words[] = {
         "done",
-        "the book is longer than 16,777,216 octets",
+        "the book is longer than 268,435,456 octets",
         "the book ends inside its header, a metadata field or a record's size",
         "the version isn't 4 (20 in hex)",
         "the metadata's size isn't that of its two tables",

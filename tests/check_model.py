@@ -14,7 +14,7 @@ import zlib
 sys.dont_write_bytecode = True
 
 import make
-from model import books, oab
+from model import books, indexes, oab
 
 
 def check_serial():
@@ -143,19 +143,38 @@ def check_refusals():
 
 
 def check_indexes():
-    """By hand, from document 02: count, length, serial, 16, and the places that the books' listings have."""
-    for book, places in ((books.small_book(), '3F0000'), (books.sample_book(), 'AA0000 2A0100')):
-        front = oab.four(book[8]) + len(book).to_bytes(4, 'little') + book[4:8] + b'\x10\0\0\0'
-        index = front + bytes.fromhex(places)
-        assert oab.make_index(book, len(index)) == ('made', index)
-        assert oab.make_index(book, len(index) - 1) == ('refused', 17, 0)
-        for k in range(book[8]):
-            assert oab.index_entry(book, index, k) == ('at', oab.word(index, 16 + 3 * k, 3))
-            for tag, _ in oab.table_of(book)[1]:
-                assert oab.lookup_indexed(book, index, k, tag) == oab.lookup(book, k, tag)
-        assert oab.lookup_indexed(book, index, book[8], 0x39FE001F) == ('refused', 15, 0)
-        assert oab.lookup_indexed(book, index[:-1], 0, 0x39FE001F) == ('refused', 19, 0)
-        assert oab.lookup_indexed(book, index[:-3] + b'\xFF\xFF\xFF', book[8] - 1, 0x39FE001F) == ('refused', 19, 0)
+    """By hand, from document 02: count, length, serial, 20 and 4, and the places that the books' listings have; an old
+    one: 16 and no width, places of three octets."""
+    for book, places in ((books.small_book(), (0x3F,)), (books.sample_book(), (0xAA, 0x12A))):
+        front = oab.four(book[8]) + len(book).to_bytes(4, 'little') + book[4:8]
+        new = front + b'\x14\0\0\0\x04\0\0\0' + b''.join(bytes((p % 256, p // 256, 0, 0)) for p in places)
+        old = front + b'\x10\0\0\0' + b''.join(bytes((p % 256, p // 256, 0)) for p in places)
+        assert oab.make_index(book, len(new)) == ('made', new)
+        assert oab.make_index(book, len(new) - 1) == ('refused', 17, 0)
+        for index in (new, old):
+            for k, place in enumerate(places):
+                assert oab.index_entry(book, index, k) == ('at', place)
+                for tag, _ in oab.table_of(book)[1]:
+                    assert oab.lookup_indexed(book, index, k, tag) == oab.lookup(book, k, tag)
+            last = book[8] - 1
+            assert oab.lookup_indexed(book, index, book[8], 0x39FE001F) == ('refused', 15, 0)
+            assert oab.lookup_indexed(book, index[:-1], 0, 0x39FE001F) == ('refused', 19, 0)
+            assert oab.lookup_indexed(book, index[:-1] + b'\xFF', last, 0x39FE001F) == ('refused', 19, 0)
+
+
+def check_old_limit():
+    """An old index beside a book as long as it is for, and one octet longer; the limit lowered for the while."""
+    limit = oab.OLD_LIMIT
+    book = books.small_book()
+    new, old = indexes.own(book), indexes.old(book)
+    try:
+        oab.OLD_LIMIT = len(book)
+        assert oab.index_entry(book, old, 0) == oab.index_entry(book, new, 0) == ('at', 0x3F)
+        oab.OLD_LIMIT = len(book) - 1
+        assert oab.index_entry(book, old, 0) == ('refused', 19, 0)
+        assert oab.index_entry(book, new, 0) == ('at', 0x3F)
+    finally:
+        oab.OLD_LIMIT = limit
 
 
 def check_writing():
@@ -211,6 +230,6 @@ def check_length_limit():
 
 if __name__ == '__main__':
     for check in (check_serial, check_document_cases, check_numbers, check_utf8, check_books, check_refusals,
-                  check_indexes, check_writing, check_count_limit, check_length_limit):
+                  check_indexes, check_old_limit, check_writing, check_count_limit, check_length_limit):
         check()
     print('the model holds')

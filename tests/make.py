@@ -607,23 +607,24 @@ class IndexStream(Stream):
 
 
 def index_own(stream, rng, table):
-    """A book and its own index: made where there is room, and every lookup is the full one."""
+    """A book and its own index: made where there is room; through it and through an old one every lookup is the full."""
     book = books.octets_of(table)
-    index = indexes.own(book)
+    index, before = indexes.own(book), indexes.old(book)
     for room in (len(index), len(index) - 1, len(index) + 7, 0, rng.randrange(len(index))):
         assert stream.make(book, room)[0] == ('made' if len(index) <= room else 'refused')
     tags = [tag for tag, _ in table[1]]
     others = [0, 0xFFFFFFFF] + [tag ^ 0x10000 for tag in tags[:2]] + [tag for tag, _ in table[0]][:2]
     for k in list(range(len(table[3]))) + [len(table[3]), 65_535, 0xFFFFFFFF]:
-        assert stream.entry(book, index, k)[0] == ('at' if k < len(table[3]) else 'refused')
-        for tag in rng.sample(tags, min(4, len(tags))) + others:
-            assert stream.ask(book, index, k, tag) == oab.lookup(book, k, tag)
+        for lent, asked in ((index, rng.sample(tags, min(4, len(tags))) + others), (before, tags[:3] + others[:1])):
+            assert stream.entry(book, lent, k)[0] == ('at' if k < len(table[3]) else 'refused')
+            for tag in asked:
+                assert stream.ask(book, lent, k, tag) == oab.lookup(book, k, tag)
 
 
 def index_wrong(stream, rng, table, other):
     """Every wrong index, before 15; entries outside the book, behind 15; entries of other records."""
     book = books.octets_of(table)
-    index, count = indexes.own(book), len(table[3])
+    count = len(table[3])
     tags = [tag for tag, _ in table[1]]
     tag = tags[0] if tags else 0
     for bad in indexes.wrong(book, other):
@@ -631,31 +632,39 @@ def index_wrong(stream, rng, table, other):
             assert stream.ask(book, bad, k, asked) == ('refused', 19, 0)
         assert stream.entry(book, bad, rng.choice((0, count))) == ('refused', 19, 0)
     for k in range(count):
-        for start in indexes.outside(book):
-            bad = indexes.with_entry(index, k, start)
-            assert stream.entry(book, bad, k) == ('refused', 19, 0)
-            assert stream.ask(book, bad, k, tag) == ('refused', 19 if tags else 15, 0)
-            assert stream.ask(book, bad, k, 0) == ('refused', 15, 0)
-            assert stream.ask(book, bad, count, tag) == ('refused', 15, 0)
-        for start in indexes.near_end(book):
-            bad = indexes.with_entry(index, k, start)
-            assert stream.entry(book, bad, k) == ('at', start)
-            assert stream.ask(book, bad, k, tag) == (('refused', 2, start) if tags else ('refused', 15, 0))
-        for start in rng.sample(range(len(book)), 4):                       # inside: whatever stands there
-            bad = indexes.with_entry(index, k, start)
-            stream.entry(book, bad, k)
-            for asked in tags[:3]:
-                stream.ask(book, bad, k, asked)
+        index_entries(stream, rng, book, indexes.own(book), k, tags)
+        index_entries(stream, rng, book, indexes.old(book), k, tags)
+
+
+def index_entries(stream, rng, book, index, k, tags):
+    """Entry k of a right index changed: outside the book, near its end, inside it."""
+    tag, count = tags[0] if tags else 0, oab.word(book, 8)
+    for start in indexes.outside(book, index):
+        bad = indexes.with_entry(index, k, start)
+        assert stream.entry(book, bad, k) == ('refused', 19, 0)
+        assert stream.ask(book, bad, k, tag) == ('refused', 19 if tags else 15, 0)
+        assert stream.ask(book, bad, k, 0) == ('refused', 15, 0)
+        assert stream.ask(book, bad, count, tag) == ('refused', 15, 0)
+    for start in indexes.near_end(book):
+        bad = indexes.with_entry(index, k, start)
+        assert stream.entry(book, bad, k) == ('at', start)
+        assert stream.ask(book, bad, k, tag) == (('refused', 2, start) if tags else ('refused', 15, 0))
+    for start in rng.sample(range(len(book)), 3):                           # inside: whatever stands there
+        bad = indexes.with_entry(index, k, start)
+        stream.entry(book, bad, k)
+        for asked in tags[:3]:
+            stream.ask(book, bad, k, asked)
 
 
 def index_spoilt(stream, rng, table):
     """A record spoilt under a right index: its own refusal, and the other records as they were."""
-    index = indexes.own(books.octets_of(table))
+    kinds = [kind(books.octets_of(table)) for kind in (indexes.own, indexes.old)]
     tags = [tag for tag, _ in table[1]]
     for k in range(len(table[3])):
-        for book, refusal in indexes.spoilt(table, k):
+        for number, (book, refusal) in enumerate(indexes.spoilt(table, k)):
+            index = kinds[number % 2]
             assert stream.ask(book, index, k, rng.choice(tags)) == ('refused',) + refusal
-            assert stream.entry(book, index, k) == ('at', oab.word(index, indexes.FRONT + oab.INDEX_WIDTH * k, 3))
+            assert stream.entry(book, index, k) == ('at', indexes.start(index, k))
             assert stream.ask(book, index, k, 0) == ('refused', 15, 0)
             for i in range(len(table[3])):
                 if i != k:
@@ -667,11 +676,12 @@ def index_exchanged(stream, table):
     """The starts of two records exchanged: whose value that is nobody promises (decision 44)."""
     book = books.octets_of(table)
     places = [record.place for record in oab.read_book(book).records]
-    index = indexes.with_entry(indexes.with_entry(indexes.own(book), 0, places[1]), 1, places[0])
-    for k in (0, 1):
-        assert stream.entry(book, index, k) == ('at', places[1 - k])
-        for tag, _ in table[1]:
-            assert stream.ask(book, index, k, tag) == oab.lookup(book, 1 - k, tag)
+    for kind in (indexes.own, indexes.old):
+        index = indexes.with_entry(indexes.with_entry(kind(book), 0, places[1]), 1, places[0])
+        for k in (0, 1):
+            assert stream.entry(book, index, k) == ('at', places[1 - k])
+            for tag, _ in table[1]:
+                assert stream.ask(book, index, k, tag) == oab.lookup(book, 1 - k, tag)
 
 
 def index_tables(stream, rng):
@@ -685,7 +695,7 @@ def index_tables(stream, rng):
             good, (book, refusal) = books.octets_of(table), made
             assert stream.make(book, rng.choice((0, 65_000))) == ('refused',) + refusal
             tag = rng.choice([tag for tag, _ in table[1]] + [0])
-            for index in (indexes.own(good), indexes.own(good)[:-1]):
+            for index in (indexes.own(good), indexes.own(good)[:-1], indexes.old(good)):
                 for k in (0, len(table[3])):
                     stream.ask(book, index, k, tag)
                     stream.entry(book, index, k)
@@ -1314,7 +1324,7 @@ def correcting_small(stream):
             if room or stream.buffer != small:  # else the last call changed nothing
                 stream.new(small, room)
             stream.call(call)
-    for length in list(range(0, 78, 3)) + [77, 79, 80, 84, 90, 91, 1000, 16_777_216, 16_777_217, 0xFFFFFFFF]:
+    for length in list(range(0, 78, 3)) + [77, 79, 80, 84, 90, 91, 1000, 16_777_217, oab.LIMIT, oab.LIMIT + 1, 0xFFFFFFFF]:
         stream.new(small, 12)                  # the stated length: over the buffer 15, else the book's refusal
         stream.state(length)
         for call in (calls[0], set_call(0, 0x3001001F, b'Q\0'), clear_call(0, 0x3001001F), insert_call(0, records[1]), delete_call(0)):

@@ -1,14 +1,12 @@
 """Octets that are lent as a saved index, and books under a right index whose records are damaged.
 
-What: for a book its own index, every kind of wrong one, indexes with an entry changed, and
-records spoilt on purpose; each with the answer that request 103 (document 02) and reading 25
-ask for, known before the model is asked. Why here: the stored cases, the calls for C programs
-and the command take them from one place.
+What: for a book its own index, of the new and of the old kind, every sort of wrong one, indexes with an entry changed,
+and records spoilt on purpose; each with the answer that requests 103 and 111 (document 02) and readings 25 and 32 ask
+for, known before the model is asked. Why here: the stored cases, the calls for C programs and the command take them
+from one place.
 """
 
 from . import books, oab
-
-FRONT = oab.INDEX_OFFSET
 
 
 def own(book):
@@ -18,39 +16,84 @@ def own(book):
     return index
 
 
-def wrong(book, other):
-    """Each index is answered 19 at 0; `other` is another good book."""
-    index = own(book)
-    fields = [oab.word(index, at) for at in (0, 4, 8, 12)]
-    yield b''
-    for n in (1, FRONT - 1, FRONT, len(index) - oab.INDEX_WIDTH, len(index) - 1):     # cut
+def old(book):
+    """The same as it was made before request 111: four fields, and starts of three octets."""
+    places = [record.place for record in oab.read_book(book).records]
+    return own(book)[:12] + oab.four(16) + b''.join(place.to_bytes(3, 'little') for place in places)
+
+
+def front(index):
+    """How many octets stand in front of the starts."""
+    return oab.word(index, 12)
+
+
+def width(index):
+    """How many octets a start takes."""
+    return 3 if front(index) == 16 else 4
+
+
+def start(index, k):
+    return oab.word(index, front(index) + width(index) * k, width(index))
+
+
+def damaged(index):
+    """Cut, too long, a field of the header changed: 19."""
+    behind, long = front(index), width(index)
+    for n in (1, 15, behind - 1, behind, len(index) - long, len(index) - 1):
         yield index[:n]
-    for tail in (b'\0', index[-1:], index[-oab.INDEX_WIDTH:], bytes(oab.INDEX_WIDTH)):    # too long
+    for tail in (b'\0', index[-1:], index[-long:], bytes(long)):
         yield index + tail
-    for i in range(4):                                                      # a field of the header, every octet of it
-        for at in range(4):
-            for bit in (0x01, 0x80):
-                changed = fields[i] ^ bit << 8 * at
-                yield index[:4 * i] + oab.four(changed) + index[4 * i + 4:]
-    for offset in (0, 12, 15, 17, 20, 0x10000010, 0xFFFFFFFF):
-        yield index[:12] + oab.four(offset) + index[16:]
+    for at in range(behind):                                                # every octet of a field
+        for bit in (0x01, 0x80):
+            yield index[:at] + bytes([index[at] ^ bit]) + index[at + 1:]
+    for offset in (0, 12, 15, 16, 17, 19, 20, 21, 24, 0x10000010, 0x10000014, 0xFFFFFFFF):
+        if offset != behind:
+            yield index[:12] + oab.four(offset) + index[16:]
     yield index[:4] + index[8:12] + index[4:8] + index[12:]                 # length and serial exchanged
-    yield oab.four(fields[0] + 1) + index[4:] + index[-3:]                  # an entry more, and its count
-    if fields[0] > 1:
-        yield oab.four(fields[0] - 1) + index[4:-3]
-    if own(other) != index:
-        yield own(other)                                                    # foreign
+    count = oab.word(index, 0)
+    yield oab.four(count + 1) + index[4:] + index[-long:]                   # an entry more, and its count
+    if count > 1:
+        yield oab.four(count - 1) + index[4:-long]
     yield index[::-1]
 
 
+def unknown(book):
+    """Neither kind, though all else is right: other widths with their entries, an offset with the other's entries."""
+    index, before = own(book), old(book)
+    starts = [start(index, k) for k in range(oab.word(index, 0))]
+    for long in (2, 3, 5, 8):
+        entries = b''.join((place % 256 ** long).to_bytes(long, 'little') for place in starts)
+        yield index[:16] + oab.four(long) + entries
+        yield index[:16] + oab.four(4) + entries
+    for said in (0, 1, 3, 5, 0x104, 0x04000000, 0xFFFFFFFF):
+        yield index[:16] + oab.four(said) + index[20:]
+    yield before[:12] + oab.four(16) + index[20:]                           # offset 16, entries of four octets
+    yield before[:12] + oab.four(20) + before[16:]                          # offset 20, and no width
+    yield before[:12] + oab.four(16) + oab.four(3) + before[16:]            # offset 16, and a width
+
+
+def wrong(book, other):
+    """Each index is answered 19 at 0; `other` is another good book."""
+    yield b''
+    yield from damaged(own(book))
+    yield from damaged(old(book))
+    yield from unknown(book)
+    if own(other) != own(book):
+        yield own(other)                                                    # foreign
+        yield old(other)
+
+
 def with_entry(index, k, start):
-    at = FRONT + oab.INDEX_WIDTH * k
-    return index[:at] + start.to_bytes(oab.INDEX_WIDTH, 'little') + index[at + oab.INDEX_WIDTH:]
+    at = front(index) + width(index) * k
+    return index[:at] + start.to_bytes(width(index), 'little') + index[at + width(index):]
 
 
-def outside(book):
+def outside(book, index):
     """Starts that no record of the book can have: 19 once record and column are found."""
-    return (len(book), len(book) + 1, 0xFFFFFE, 0xFFFFFF)
+    starts = (len(book), len(book) + 1, 0xFFFFFE, 0xFFFFFF)
+    if width(index) == 4:                       # the fourth octet counts
+        starts += tuple(start(index, 0) + (octet << 24) for octet in (1, 0x10, 0x80)) + (0xFFFFFFFF,)
+    return starts
 
 
 def near_end(book):

@@ -7,7 +7,7 @@ code under test. The model is written from document 01 (the scope), document 000
 possible; speed plays no part. "Decision N" below is its number there.
 """
 
-LIMIT = 16_777_216        # most octets of a book
+LIMIT = 268_435_456       # most octets of a book (request 111)
 MOST_COLUMNS = 128        # most columns of a table
 MOST_RECORDS = 65_535     # most address records of a book
 VERSION = 0x20
@@ -357,36 +357,52 @@ def lookup(book, record, tag):
     return ('absent',) if stretch is None else ('at',) + stretch
 
 
-# ---------------------------------------------------------------- a saved index (request 103, decisions 41 to 47)
+# ------------------------------------------- a saved index (requests 103 and 111, decisions 41 to 47, 51 to 53)
 
-INDEX_OFFSET = 16         # where the starts begin: behind four fields of four octets
-INDEX_WIDTH = 3           # octets of a start
+INDEX_OFFSET = 20         # where the starts begin: behind five fields of four octets
+INDEX_WIDTH = 4           # octets of a start, and the fifth field
+OLD_OFFSET = 16           # an old index: four fields, starts of three octets
+OLD_WIDTH = 3
+OLD_LIMIT = 16_777_216    # most octets of a book that an old index is for
 
 
 def make_index(book, room):
-    """The octets of a good book's index: count, length, serial and offset, then each start; 17 comes last."""
+    """The octets of a good book's index: count, length, serial, offset and width, then each start; 17 comes last."""
     try:
         got = read_book(book)
     except Refusal as refusal:
         return refusal.answer()
-    index = four(len(got.records)) + four(len(book)) + four(word(book, 4)) + four(INDEX_OFFSET)
+    index = four(len(got.records)) + four(len(book)) + four(word(book, 4)) + four(INDEX_OFFSET) + four(INDEX_WIDTH)
     index += b''.join(record.place.to_bytes(INDEX_WIDTH, 'little') for record in got.records)
     return ('made', index) if len(index) <= room else ('refused', 17, 0)
+
+
+def width_of(book, index):
+    """The width of the entries, by the kind of the index; 19 for a kind that isn't known or isn't for the book."""
+    offset = word(index, 12)
+    if offset == OLD_OFFSET:
+        if len(book) > OLD_LIMIT:
+            raise Refusal(19, 0)
+        return OLD_WIDTH
+    if offset != INDEX_OFFSET or len(index) < INDEX_OFFSET or word(index, 16) != INDEX_WIDTH:
+        raise Refusal(19, 0)
+    return INDEX_WIDTH
 
 
 def beside(book, index, k):
     """The table refusals, 19 for an index that isn't the book's, 15 for the record: the columns, and the entry."""
     count, _, columns, _ = read_tables(book)
-    if len(index) < INDEX_OFFSET:
+    if len(index) < OLD_OFFSET:
         raise Refusal(19, 0)
-    fields = [word(index, at) for at in (0, 4, 8, 12)]
-    if fields != [count, len(book), word(book, 4), INDEX_OFFSET]:
+    width = width_of(book, index)
+    if [word(index, at) for at in (0, 4, 8)] != [count, len(book), word(book, 4)]:
         raise Refusal(19, 0)
-    if len(index) != INDEX_OFFSET + INDEX_WIDTH * count:
+    offset = word(index, 12)
+    if len(index) != offset + width * count:
         raise Refusal(19, 0)
     if k >= count:
         raise Refusal(15, 0)
-    return columns, word(index, INDEX_OFFSET + INDEX_WIDTH * k, INDEX_WIDTH)
+    return columns, word(index, offset + width * k, width)
 
 
 def index_entry(book, index, k):

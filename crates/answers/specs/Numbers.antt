@@ -60,7 +60,7 @@ wrongIndex = 19
 
 -- the house limits
 abbrev pub mostOctets : ℕ
-mostOctets = 16777216
+mostOctets = 268435456
 
 abbrev pub mostColumns : ℕ
 mostColumns = 128

@@ -64,7 +64,7 @@ pub const BREAKS_FORM: u32 = 18;
 
 pub const WRONG_INDEX: u32 = 19;
 
-pub const MOST_OCTETS: usize = 16777216;
+pub const MOST_OCTETS: usize = 268435456;
 
 pub const MOST_COLUMNS: usize = 128;
 

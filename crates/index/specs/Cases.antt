@@ -1,12 +1,14 @@
 -- The ways of the code that reads an index and looks up through it, on plain values.
 use Prim.Native.Nat.{ℕ, _+_, _-_, _*_, _^_, _≤_, _<_}
 use native.Mathlib.Omega.{arith}
-use native.Mathlib.Nat.{sub-zero}
+use native.Mathlib.Nat.{sub-zero, mul-le-mul, le-of-lt}
 use mathlib.Core.Path.{_≡_, refl, sym, _∙_}
 use mathlib.Core.List.{List, []}
-use lib.Dec.{eqb, ltb}
+use lib.Dec.{eqb, ltb, leb}
 use lib.ListN.{length, take, drop}
-use borrow.Author.Tests.{eq-eqb, ne-eqb, lt-ltb, le-ltb, ltb-true}
+use mir.Val.{Fits}
+use mir.Syntax.{w64}
+use borrow.Author.Tests.{eq-eqb, ne-eqb, lt-ltb, le-ltb, le-leb, lt-leb, ltb-true}
 use Rattle.octets.specs.Word.{wordOf, narrowWord}
 use Rattle.answers.specs.Numbers.{outOfTurn, wrongIndex, mostRecords}
 use Rattle.answers.specs.declared.Verdict.{Verdict}
@@ -29,8 +31,8 @@ use Rattle.lookup.specs.Look.{noSuch, seekIn, columnIn, inColumn}
 use Rattle.lookup.specs.declared.Looked.{Looked}
 use Rattle.lookup.specs.declared.Looked.the-variants as looked
 use Rattle.lookup.specs.declared.Placed.the-variants as placed
-use Rattle.index.specs.Index.{startsOffset, entryWidth, kindAt, indexAt, startAt, pairAt, entryOf, recordLook}
-use Rattle.index.specs.Index.{indexedOf}
+use Rattle.index.specs.Index.{startsOffset, entryWidth, oldOffset, oldWidth, oldMost, widthBy, kindAt, indexAt}
+use Rattle.index.specs.Index.{startAt, startOf, pairAt, entryOf, recordLook, indexedOf}
 
 -- the index beside the book, then the record's number
 unfoldable pub besideAt : List ℕ → List ℕ → ℕ → Verdict
@@ -43,20 +45,62 @@ tableLook columns b at tag =
     (λ c. recordLook
     (slotsFrom (take (columns .count) (columns .forms)) (take (columns .count) (columns .flags))) b at c)
 
+-- ---- judge_kind
+
+module _ (b ix : List ℕ) (o : ℕ) (oe : o ≡ wordOf 4 (drop 12 ix)) where
+  module _ (z : o ≡ oldOffset) where
+    pub kind-long : (v : Verdict) → oldMost < length b → v ≡ refused wrongIndex 0 → v ≡ kindAt b ix
+    unfolding kindAt
+    kind-long v h e = rw (e, ← oe, eq-eqb o oldOffset z, lt-leb (length b) oldMost h)
+
+    pub kind-old : length b ≤ oldMost → clear ≡ kindAt b ix
+    unfolding kindAt
+    kind-old h = rw (← oe, eq-eqb o oldOffset z, le-leb (length b) oldMost h)
+
+  module _ (z : o ≡ oldOffset → ⊥) where
+    pub kind-unknown : (v : Verdict) → (o ≡ startsOffset → ⊥) → v ≡ refused wrongIndex 0 → v ≡ kindAt b ix
+    unfolding kindAt
+    kind-unknown v y e = rw (e, ← oe, ne-eqb o oldOffset z, ne-eqb o startsOffset y)
+
+    module _ (y : o ≡ startsOffset) (w : ℕ) (we : w ≡ wordOf 4 (drop 16 ix)) where
+      pub kind-width : (v : Verdict) → (w ≡ entryWidth → ⊥) → v ≡ refused wrongIndex 0 → v ≡ kindAt b ix
+      unfolding kindAt
+      kind-width v x e = rw (e, ← oe, ne-eqb o oldOffset z, eq-eqb o startsOffset y, ← we, ne-eqb w entryWidth x)
+
+      pub kind-new : w ≡ entryWidth → clear ≡ kindAt b ix
+      unfolding kindAt
+      kind-new x = rw (← oe, ne-eqb o oldOffset z, eq-eqb o startsOffset y, ← we, eq-eqb w entryWidth x)
+
+pub ruleset kinds = (kind-long, kind-old, kind-unknown, kind-width, kind-new)
+
+-- ---- width_by
+
+module _ (o : ℕ) where
+  pub width-old : o ≡ oldOffset → oldWidth ≡ widthBy o
+  width-old z = rw (eq-eqb o oldOffset z)
+
+  pub width-new : (o ≡ oldOffset → ⊥) → entryWidth ≡ widthBy o
+  width-new z = rw (ne-eqb o oldOffset z)
+
+pub ruleset widths = (width-old, width-new)
+
+-- an entry takes four octets at most, so the stretch in front of another one fits
+module _ (o w n : ℕ) (h : w ≤ 4) (g : n < 2 ^ 32) where
+  entries-small : w * n ≤ 4 * 2 ^ 32
+  entries-small = mul-le-mul h (le-of-lt g)
+
+  pub stretch-mul : Fits w64 (w * n)
+  stretch-mul = record { fits = let m = entries-small in omega arith }
+
+  pub stretch-add : o < 2 ^ 32 → Fits w64 (o + w * n)
+  stretch-add l = record { fits = let m = entries-small in omega arith }
+
+pub stretch-short : (o w k : ℕ) → o < 2 ^ 32 → w ≤ 4 → k < mostRecords → o + w * k < 2 ^ 64
+stretch-short o w k l h g = let m = entries-small o w k h (omega arith) in omega arith
+
 -- ---- judge_index and judge_beside
 
-module _ (ix : List ℕ) (o : ℕ) (oe : o ≡ wordOf 4 (drop 12 ix)) where
-  pub kind-unknown : (v : Verdict) → (o ≡ 16 → ⊥) → v ≡ refused wrongIndex 0 → v ≡ kindAt ix
-  unfolding kindAt
-  kind-unknown v z e = rw (e, ← oe, ne-eqb o 16 z)
-
-  pub kind-known : o ≡ 16 → clear ≡ kindAt ix
-  unfolding kindAt
-  kind-known z = rw (← oe, eq-eqb o 16 z)
-
-pub ruleset kinds = (kind-unknown, kind-known)
-
-module _ (b ix : List ℕ) (u : Verdict) (ue : u ≡ kindAt ix) where
+module _ (b ix : List ℕ) (u : Verdict) (ue : u ≡ kindAt b ix) where
   pub index-kind : (r : Refusal) → u ≡ Refused r → u ≡ indexAt b ix
   unfolding indexAt
   index-kind r z = rw (← ue, z)
@@ -77,20 +121,21 @@ module _ (b ix : List ℕ) (u : Verdict) (ue : u ≡ kindAt ix) where
         index-serial q e =
             rw (e, ← ue, z, ← ne, ← ce, eq-eqb n c y, ← le, eq-eqb l (length b) x, ← se, ← te, ne-eqb s t q)
 
-        pub index-size : s ≡ t → (length ix ≡ startsOffset + entryWidth * c → ⊥) → v ≡ refused wrongIndex 0
-            → v ≡ indexAt b ix
-        unfolding indexAt
-        index-size q p e =
-            rw (e, ← ue, z, ← ne, ← ce, eq-eqb n c y, ← le, eq-eqb l (length b) x, ← se, ← te, eq-eqb s t q)
-            (rw (ne-eqb (length ix) (startsOffset + entryWidth * c) p))
+        module _ (q : s ≡ t) (o w : ℕ) (oe : o ≡ wordOf 4 (drop 12 ix)) (we : w ≡ widthBy o) where
+          pub index-size : (length ix ≡ o + w * c → ⊥) → v ≡ refused wrongIndex 0 → v ≡ indexAt b ix
+          unfolding indexAt
+          index-size p e =
+              rw (e, ← ue, z, ← ne, ← ce, eq-eqb n c y, ← le, eq-eqb l (length b) x, ← se, ← te, eq-eqb s t q)
+              (rw (← oe, ← we, ne-eqb (length ix) (o + w * c) p))
 
-pub index-good : (b ix : List ℕ) (u : Verdict) (c n l s t : ℕ) → u ≡ kindAt ix → u ≡ clear → c ≡ wordOf 4 (drop 8 b)
-    → n ≡ wordOf 4 ix → n ≡ c → l ≡ wordOf 4 (drop 4 ix) → l ≡ length b → s ≡ wordOf 4 (drop 8 ix)
-    → t ≡ wordOf 4 (drop 4 b) → s ≡ t → length ix ≡ startsOffset + entryWidth * c → clear ≡ indexAt b ix
+pub index-good : (b ix : List ℕ) (u : Verdict) (c n l s t o w : ℕ) → u ≡ kindAt b ix → u ≡ clear
+    → c ≡ wordOf 4 (drop 8 b) → n ≡ wordOf 4 ix → n ≡ c → l ≡ wordOf 4 (drop 4 ix) → l ≡ length b
+    → s ≡ wordOf 4 (drop 8 ix) → t ≡ wordOf 4 (drop 4 b) → s ≡ t → o ≡ wordOf 4 (drop 12 ix) → w ≡ widthBy o
+    → length ix ≡ o + w * c → clear ≡ indexAt b ix
 unfolding indexAt
-index-good b ix u c n l s t ue z ce ne y le x se te q p =
+index-good b ix u c n l s t o w ue z ce ne y le x se te q oe we p =
     rw (← ue, z, ← ne, ← ce, eq-eqb n c y, ← le, eq-eqb l (length b) x, ← se, ← te, eq-eqb s t q)
-    (rw (eq-eqb (length ix) (startsOffset + entryWidth * c) p))
+    (rw (← oe, ← we, eq-eqb (length ix) (o + w * c) p))
 
 pub ruleset indexes = (index-kind, index-count, index-length, index-serial, index-size, index-good)
 
@@ -110,12 +155,16 @@ module _ (b ix : List ℕ) (k : ℕ) (v : Verdict) (ve : v ≡ indexAt b ix) whe
 
 pub ruleset besides = (beside-index, beside-none, beside-good)
 
--- ---- start_at
+-- ---- start_at and start_of
 
 pub start-is : (ix : List ℕ) (offset w k r : ℕ) → w ≤ 8 → r ≡ narrowWord w (drop (offset + w * k) ix)
     → r ≡ startAt offset w k ix
 unfolding startAt narrowWord
 start-is ix offset w k r h e = rw (le-ltb 8 w h) at e
+
+pub start-by : (ix : List ℕ) (k o w r : ℕ) → o ≡ wordOf 4 (drop 12 ix) → w ≡ widthBy o → r ≡ startAt o w k ix
+    → r ≡ startOf ix k
+start-by ix k o w r oe we e = rw (← oe, ← we) e
 
 -- ---- look_column and look_at
 
@@ -189,17 +238,14 @@ module _ (b ix : List ℕ) (k : ℕ) (t : Tables) (te : t ≡ tablesIn b) where
     indexed-beside tag r y = rw (pair-rest, y)
 
     module _ (y : w ≡ clear) where
-      few : k < mostRecords
+      pub few : k < mostRecords
       unfolding besideAt
       few =
           let h = ltb-true k (countIn b) (unmet _ outOfTurn 0 (apart (indexAt b ix) _ (sym we ∙ y) .1)) in
           let l = header-keeps b (apart (headerAt b) _ (front-is ∙ z) .0) in
           omega (arith, l .1)
 
-      pub start-fits : startsOffset + entryWidth * k < 2 ^ 64
-      start-fits = let h = few in omega arith
-
-      module _ (at : ℕ) (ae : at ≡ startAt startsOffset entryWidth k ix) where
+      module _ (at : ℕ) (ae : at ≡ startOf ix k) where
         pub entry-out : length b ≤ at → placed.Refused (record { number = wrongIndex; place = 0 }) ≡ entryOf b ix k
         unfolding entryOf
         entry-out h = rw (pair-rest, y, ← ae, le-ltb at (length b) h)

@@ -10,7 +10,7 @@ use Rattle.octets.specs.Word.{leOf, wordOf, length-word, drop-word, word-back}
 use Rattle.serial.specs.Serial.{serialOf}
 use Rattle.book.specs.Book.{Book, bodyOctets, bookOctets}
 use Rattle.lookup.specs.Places.{placeOf}
-use Rattle.index.specs.Index.{startsOffset, entryWidth, fieldsOf, entriesOf, listed, startsOf, indexOf, startAt}
+use Rattle.index.specs.Index.{fieldsOf, entriesOf, listed, startsOf, indexBy, startAt}
 
 -- ---- entries
 
@@ -77,6 +77,11 @@ pub fields-long : (n l s offset : ℕ) → length (fieldsOf n l s offset) ≡ 16
 unfolding fieldsOf
 fields-long n l s offset = refl
 
+-- and with what stands behind the first four fields
+pub front-long : (n l s offset : ℕ) (more : List ℕ) → length (fieldsOf n l s offset ++ more) ≡ 16 + length more
+front-long n l s offset more =
+    length-append (fieldsOf n l s offset) more ∙ ap (λ (m : ℕ). m + length more) (fields-long n l s offset)
+
 pub starts-count : (b : Book) → length (startsOf b) ≡ length (b .rows)
 unfolding startsOf
 starts-count b = listed-long (length (b .rows)) (placeOf b)
@@ -85,12 +90,11 @@ pub start-in : (b : Book) (k : ℕ) → k < length (b .rows) → getD (startsOf 
 unfolding startsOf
 start-in b = listed-at (length (b .rows)) (placeOf b)
 
-pub index-long : (b : Book) → length (indexOf b) ≡ startsOffset + entryWidth * length (b .rows)
-unfolding indexOf
-index-long b =
-    let head : List ℕ = fieldsOf (length (b .rows)) (length (bookOctets b)) (serialOf (bodyOctets b)) startsOffset in
-    let h : length head ≡ 16 = fields-long _ _ _ _ in
-    let e = entries-long entryWidth (startsOf b) in
-    let n = starts-count b in
-    let l = length-append head (entriesOf entryWidth (startsOf b)) in
-    omega arith
+pub index-long : (offset w : ℕ) (more : List ℕ) (b : Book) → 16 + length more ≡ offset
+    → length (indexBy offset w more b) ≡ offset + w * length (b .rows)
+unfolding indexBy
+index-long offset w more b h =
+    let head : List ℕ = fieldsOf (length (b .rows)) (length (bookOctets b)) (serialOf (bodyOctets b)) offset in
+    length-append (head ++ more) (entriesOf w (startsOf b))
+    ∙ ap₂ (λ (m n : ℕ). m + n) (front-long (length (b .rows)) (length (bookOctets b)) (serialOf (bodyOctets b)) offset more ∙ h)
+    (entries-long w (startsOf b) ∙ ap (λ (n : ℕ). w * n) (starts-count b))

@@ -1,6 +1,7 @@
--- A saved index of a book (request 103, reading 25): its header, then the start of each address record. How it is made
--- from a book, how it is read beside octets of any kind, and the lookup through it.
+-- A saved index of a book (requests 103 and 111, readings 25 and 32): its header, then the start of each address
+-- record. How it is made from a book, how either kind is read beside octets of any sort, and the lookup through it.
 use Prim.Native.Nat.{ℕ, zero, suc, _+_, _*_}
+use mathlib.Core.Bool.{cond}
 use mathlib.Core.List.{List, [], _∷_, _++_}
 use lib.Dec.{eqb, ltb, leb}
 use lib.ListN.{length, drop}
@@ -28,10 +29,20 @@ use Rattle.lookup.specs.declared.Placed.the-variants as placed
 
 -- where the starts begin in an index, and how many octets each takes
 abbrev pub startsOffset : ℕ
-startsOffset = 16
+startsOffset = 20
 
 abbrev pub entryWidth : ℕ
-entryWidth = 3
+entryWidth = 4
+
+-- the same in an old index (request 103), and the longest book that one is for
+abbrev pub oldOffset : ℕ
+oldOffset = 16
+
+abbrev pub oldWidth : ℕ
+oldWidth = 3
+
+abbrev pub oldMost : ℕ
+oldMost = 16777216
 
 -- record count, book length, serial, offset of the starts
 unfoldable pub fieldsOf : ℕ → ℕ → ℕ → ℕ → List ℕ
@@ -51,10 +62,19 @@ listed (suc n) p = p 0 ∷ listed n (λ k. p (suc k))
 unfoldable pub startsOf : Book → List ℕ
 startsOf b = listed (length (b .rows)) (placeOf b)
 
-unfoldable pub indexOf : Book → List ℕ
-indexOf b =
-    fieldsOf (length (b .rows)) (length (bookOctets b)) (serialOf (bodyOctets b)) startsOffset
-    ++ entriesOf entryWidth (startsOf b)
+-- an index whose starts begin at `offset` and take w octets each, with `more` behind the first four fields
+unfoldable pub indexBy : ℕ → ℕ → List ℕ → Book → List ℕ
+indexBy offset w more b =
+    (fieldsOf (length (b .rows)) (length (bookOctets b)) (serialOf (bodyOctets b)) offset ++ more)
+    ++ entriesOf w (startsOf b)
+
+-- the index of a book: its fifth field is the width of an entry
+abbrev pub indexOf : Book → List ℕ
+indexOf b = indexBy startsOffset entryWidth (leOf 4 entryWidth) b
+
+-- an old one, as it was made before request 111
+abbrev pub oldIndexOf : Book → List ℕ
+oldIndexOf b = indexBy oldOffset oldWidth [] b
 
 -- ---- the maker: the book's refusals, then room
 
@@ -73,25 +93,37 @@ makeOctets xs d = kept (makeAt xs d) d (stored d 0 (indexOf (bookIn xs)))
 abbrev pub serialIn : List ℕ → ℕ
 serialIn xs = wordOf 4 (drop 4 xs)
 
--- the kind of an index, told by its offset
-unfoldable pub kindAt : List ℕ → Verdict
-kindAt ix = need (eqb (wordOf 4 (drop 12 ix)) startsOffset) wrongIndex 0
+-- the offset of the starts, as it stands in an index
+abbrev pub offsetIn : List ℕ → ℕ
+offsetIn ix = wordOf 4 (drop 12 ix)
+
+-- how many octets an entry takes: an old index is told by its offset
+abbrev pub widthBy : ℕ → ℕ
+widthBy offset = cond (eqb offset oldOffset) oldWidth entryWidth
+
+-- an old index, beside a book that it is for, or a new one with its width
+unfoldable pub kindAt : List ℕ → List ℕ → Verdict
+kindAt xs ix =
+    cond (eqb (offsetIn ix) oldOffset)
+    (need (leb (length xs) oldMost) wrongIndex 0)
+    (need (eqb (offsetIn ix) startsOffset) wrongIndex 0
+    then need (eqb (wordOf 4 (drop 16 ix)) entryWidth) wrongIndex 0)
 
 -- its kind, then count, length, serial and its own size beside the book
 unfoldable pub indexAt : List ℕ → List ℕ → Verdict
 indexAt xs ix =
-    kindAt ix
+    kindAt xs ix
     then need (eqb (wordOf 4 ix) (countIn xs)) wrongIndex 0
     then need (eqb (wordOf 4 (drop 4 ix)) (length xs)) wrongIndex 0
     then need (eqb (wordOf 4 (drop 8 ix)) (serialIn xs)) wrongIndex 0
-    then need (eqb (length ix) (startsOffset + entryWidth * countIn xs)) wrongIndex 0
+    then need (eqb (length ix) (offsetIn ix + widthBy (offsetIn ix) * countIn xs)) wrongIndex 0
 
 -- the entry of record k in an index with this offset and this width
 unfoldable pub startAt : ℕ → ℕ → ℕ → List ℕ → ℕ
 startAt offset w k ix = wordOf w (drop (offset + w * k) ix)
 
 abbrev pub startOf : List ℕ → ℕ → ℕ
-startOf ix k = startAt startsOffset entryWidth k ix
+startOf ix k = startAt (offsetIn ix) (widthBy (offsetIn ix)) k ix
 
 -- the table refusals, the index, the record's number
 unfoldable pub pairAt : List ℕ → List ℕ → ℕ → Verdict

@@ -1,6 +1,7 @@
 pub mod Index
 pub mod Entries
 pub mod Own
+pub mod Kinds
 pub mod Inside
 pub mod Alike
 pub mod Local

@@ -14,7 +14,7 @@ use Rattle.entry.specs.Record.{Slot, recordAt, presentIn, valuesIn}
 use Rattle.book.specs.Book.{rowSlots, colsIn, recordsPlace}
 use Rattle.lookup.specs.Look.{seekIn, columnIn, lookBy}
 use Rattle.lookup.specs.Laws.{in-same}
-use Rattle.index.specs.Index.{indexAt, startOf, pairAt, entryOf, recordLook, indexedOf}
+use Rattle.index.specs.Index.{kindAt, indexAt, startOf, pairAt, entryOf, recordLook, indexedOf}
 use Rattle.index.specs.Alike.{Alike, alike-less, alike-drop, alike-word, cols-alike, number-alike, serial-alike}
 use Rattle.index.specs.Alike.{tables-through}
 
@@ -66,7 +66,7 @@ module _ (xs ys : List ℕ) (long : length xs ≡ length ys)
   both-fronts = record { long = long; same = front }
 
   pair-alike : (ix : List ℕ) (k : ℕ) → pairAt xs ix k ≡ pairAt ys ix k
-  unfolding pairAt indexAt
+  unfolding pairAt indexAt kindAt
   pair-alike ix k =
       let t = tables-through xs ys both-fronts in
       let n = number-alike xs ys both-fronts in

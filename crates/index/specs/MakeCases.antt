@@ -29,21 +29,34 @@ use Rattle.lookup.specs.Cases.{walk-place}
 use Rattle.index.specs.Index.{startsOffset, entryWidth, fieldsOf, entriesOf, listed, startsOf, indexOf, makeAt}
 use Rattle.index.specs.Index.{makeAnswer, makeOctets, serialIn}
 use Rattle.index.specs.Entries.{entries-long, entries-snoc, listed-long, listed-same, listed-snoc, fields-long}
+use Rattle.index.specs.Entries.{front-long}
 use Rattle.index.specs.Own.{own-is, own-place, own-long}
 
--- ---- put_fields
+-- ---- put_fields and put_front
 
 pub fields-put : (d₀ d₁ d₂ d₃ d₄ : List ℕ) (n l s : ℕ) → 16 ≤ length d₀ → d₁ ≡ stored d₀ 0 (leOf 4 n)
-    → d₂ ≡ stored d₁ 4 (leOf 4 l) → d₃ ≡ stored d₂ 8 (leOf 4 s) → d₄ ≡ stored d₃ 12 (leOf 4 16)
+    → d₂ ≡ stored d₁ 4 (leOf 4 l) → d₃ ≡ stored d₂ 8 (leOf 4 s) → d₄ ≡ stored d₃ 12 (leOf 4 startsOffset)
     → d₄ ≡ stored d₀ 0 (fieldsOf n l s startsOffset)
 unfolding fieldsOf
 fields-put d₀ d₁ d₂ d₃ d₄ n l s h e₁ e₂ e₃ e₄ =
     rw (e₄, e₃, e₂, e₁) (
-    ap (λ (d : List ℕ). stored (stored d 8 (leOf 4 s)) 12 (leOf 4 16))
+    ap (λ (d : List ℕ). stored (stored d 8 (leOf 4 s)) 12 (leOf 4 startsOffset))
     (stored-join d₀ (leOf 4 n) (leOf 4 l) 0 4 refl (omega arith))
-    ∙ ap (λ (d : List ℕ). stored d 12 (leOf 4 16))
+    ∙ ap (λ (d : List ℕ). stored d 12 (leOf 4 startsOffset))
     (stored-join d₀ (leOf 4 n ++ leOf 4 l) (leOf 4 s) 0 8 refl (omega arith))
-    ∙ stored-join d₀ ((leOf 4 n ++ leOf 4 l) ++ leOf 4 s) (leOf 4 16) 0 12 refl (omega arith))
+    ∙ stored-join d₀ ((leOf 4 n ++ leOf 4 l) ++ leOf 4 s) (leOf 4 startsOffset) 0 12 refl (omega arith))
+
+-- what stands in front of the starts
+unfoldable pub frontOf : ℕ → ℕ → ℕ → List ℕ
+frontOf n l s = fieldsOf n l s startsOffset ++ leOf 4 entryWidth
+
+pub front-put : (d x y : List ℕ) (n l s : ℕ) → startsOffset ≤ length d → x ≡ stored d 0 (fieldsOf n l s startsOffset)
+    → y ≡ stored x 16 (leOf 4 entryWidth) → y ≡ stored d 0 (frontOf n l s)
+unfolding frontOf
+front-put d x y n l s h e q =
+    let f : length (fieldsOf n l s startsOffset) ≡ 16 = fields-long n l s startsOffset in
+    q ∙ ap (λ (z : List ℕ). stored z 16 (leOf 4 entryWidth)) e
+    ∙ stored-join d (fieldsOf n l s startsOffset) (leOf 4 entryWidth) 0 16 (omega arith) (omega arith)
 
 -- ---- put_starts
 
@@ -144,7 +157,7 @@ module _ (b d : List ℕ) (j : Judgement) (e : j ≡ judgedOf b) where
 
       size-is : length (indexOf (bookIn b)) ≡ size
       size-is =
-          own-long b (octets-from b o) (good .clears)
+          own-long b (octets-from b o) (good .clears) startsOffset entryWidth (leOf 4 entryWidth) refl (omega arith)
           ∙ ap (λ (n : ℕ). startsOffset + entryWidth * n) (sym (good .count))
 
       verdict-by : makeAt b d ≡ need (leb size (length d)) noRoom 0
@@ -177,18 +190,19 @@ module _ (b d : List ℕ) (j : Judgement) (e : j ≡ judgedOf b) where
             ∙ ap (λ (m : ℕ). listed m (placeOf (bookIn b))) n)
 
         pub make-put : (x y : List ℕ) (s : ℕ) → s ≡ wordOf 4 (drop 4 b)
-            → x ≡ stored d 0 (fieldsOf c (length b) s startsOffset)
+            → x ≡ stored d 0 (frontOf c (length b) s)
             → y ≡ stored x startsOffset (walked entryWidth c f (drop f b)) → y ≡ makeOctets b d
-        unfolding makeOctets
+        unfolding makeOctets frontOf
         make-put x y s u v w =
-            let head : List ℕ = fieldsOf c (length b) s startsOffset in
+            let head : List ℕ = fieldsOf c (length b) s startsOffset ++ leOf 4 entryWidth in
             let es : List ℕ = walked entryWidth c f (drop f b) in
             let n : length es ≡ entryWidth * c = walked-long entryWidth c f (drop f b) in
-            let m : length head ≡ 16 = fields-long c (length b) s startsOffset in
+            let m : length head ≡ startsOffset = front-long c (length b) s startsOffset (leOf 4 entryWidth) in
             let z : stored (stored d 0 head) startsOffset es ≡ stored d 0 (head ++ es) =
             stored-join d head es 0 startsOffset (omega arith) (omega arith) in
             let t : head ++ es ≡ indexOf (bookIn b) =
-            rw (entries-are, u, good .count) (sym (own-is b (octets-from b o) (good .clears))) in
+            rw (entries-are, u, good .count)
+            (sym (own-is b (octets-from b o) (good .clears) startsOffset entryWidth (leOf 4 entryWidth) refl (omega arith))) in
             w ∙ ap (λ (x : List ℕ). stored x startsOffset es) v ∙ z ∙ ap (stored d 0) t
             ∙ rw (verdict-by, le-leb size (length d) g)
 

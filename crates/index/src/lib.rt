@@ -1,4 +1,4 @@
-// A saved index of a book (request 103): made from the book, read beside it, and a lookup of one address record through
+// A saved index of a book (requests 103 and 111): made from the book, read beside it, and a lookup of one address record through
 // it, whose cost doesn't grow with the number of records.
 use answers::Made;
 use answers::Refusal;
@@ -17,15 +17,22 @@ ghost use lib.ListN.{length, drop};
 ghost use Rattle.answers.specs.Numbers.{mostRecords};
 ghost use Rattle.octets.specs.Splice.{stored};
 ghost use Rattle.entry.specs.Slots.{slotsFrom};
-ghost use Rattle.index.specs.Index.{startsOffset, fieldsOf, makeAnswer, makeOctets, kindAt, indexAt};
-ghost use Rattle.index.specs.Index.{startAt, entryOf, recordLook, indexedOf};
-ghost use Rattle.index.specs.MakeCases.{walked};
+ghost use Rattle.index.specs.Index.{startsOffset, fieldsOf, makeAnswer, makeOctets, widthBy, kindAt, indexAt};
+ghost use Rattle.index.specs.Index.{startAt, startOf, entryOf, recordLook, indexedOf};
+ghost use Rattle.index.specs.MakeCases.{frontOf, walked};
 ghost use Rattle.index.specs.Cases.{besideAt, tableLook};
 
 // Where the starts begin in an index, and how many octets each takes.
-const STARTS_OFFSET: usize = 16;
+const STARTS_OFFSET: usize = 20;
 
-const ENTRY_WIDTH: usize = 3;
+const ENTRY_WIDTH: usize = 4;
+
+// The same in an old index, and the longest book that one is for.
+const OLD_OFFSET: usize = 16;
+
+const OLD_WIDTH: usize = 3;
+
+const OLD_MOST: usize = 16777216;
 
 // ---- the maker
 
@@ -37,6 +44,15 @@ fn put_fields(out: &mut [u8], count: usize, long: usize, serial: u32)
     put_word(out, 4, 4, long as u64);
     put_word(out, 8, 4, serial as u64);
     put_word(out, 12, 4, STARTS_OFFSET as u64);
+}
+
+// All that stands in front of the starts: the fifth field is the width of an entry.
+fn put_front(out: &mut [u8], count: usize, long: usize, serial: u32)
+    requires { ⌜ startsOffset ≤ length (now out) ⌝ }
+    ensures { λ _. ⌜ now (out .exit) ≡ stored (now (out .entry)) 0 (frontOf count long serial) ⌝ }
+{
+    put_fields(out, count, long, serial);
+    put_word(out, 16, 4, ENTRY_WIDTH as u64);
 }
 
 // The starts of `count` records from `first` on, from `at` on and in `width` octets each.
@@ -78,7 +94,7 @@ pub fn make_index(book: &[u8], out: &mut [u8]) -> Made
                     place: 0,
                 });
             }
-            put_fields(out, count, book.len(), word32(book, 4));
+            put_front(out, count, book.len(), word32(book, 4));
             put_starts(out, STARTS_OFFSET, ENTRY_WIDTH, book, first, count);
             Made::Done(size)
         }
@@ -87,11 +103,31 @@ pub fn make_index(book: &[u8], out: &mut [u8]) -> Made
 
 // ---- the reader
 
-// The kind of an index, told by its offset.
-fn judge_kind(index: &[u8]) -> Verdict
-    ensures { λ r. ⌜ r ≡ kindAt (now (index .entry)) ⌝ }
+// How many octets an entry takes in an index of this offset.
+fn width_by(offset: usize) -> usize
+    ensures { λ r. ⌜ (r ≡ widthBy offset) × (r ≤ 4) ⌝ }
 {
-    if word32(index, 12) as usize != STARTS_OFFSET {
+    if offset == OLD_OFFSET {
+        return OLD_WIDTH;
+    }
+    ENTRY_WIDTH
+}
+
+// An old index, beside a book that it is for, or a new one with its width.
+fn judge_kind(book: &[u8], index: &[u8]) -> Verdict
+    ensures { λ r. ⌜ r ≡ kindAt (now (book .entry)) (now (index .entry)) ⌝ }
+{
+    let offset = word32(index, 12) as usize;
+    if offset == OLD_OFFSET {
+        if OLD_MOST < book.len() {
+            return refuse(answers::WRONG_INDEX, 0);
+        }
+        return Verdict::Clear;
+    }
+    if offset != STARTS_OFFSET {
+        return refuse(answers::WRONG_INDEX, 0);
+    }
+    if word32(index, 16) as usize != ENTRY_WIDTH {
         return refuse(answers::WRONG_INDEX, 0);
     }
     Verdict::Clear
@@ -101,7 +137,7 @@ fn judge_kind(index: &[u8]) -> Verdict
 fn judge_index(book: &[u8], index: &[u8]) -> Verdict
     ensures { λ r. ⌜ r ≡ indexAt (now (book .entry)) (now (index .entry)) ⌝ }
 {
-    let v = judge_kind(index);
+    let v = judge_kind(book, index);
     let Verdict::Clear = v else {
         return v;
     };
@@ -115,7 +151,8 @@ fn judge_index(book: &[u8], index: &[u8]) -> Verdict
     if word32(index, 8) != word32(book, 4) {
         return refuse(answers::WRONG_INDEX, 0);
     }
-    if index.len() != STARTS_OFFSET + ENTRY_WIDTH * count as usize {
+    let offset = word32(index, 12) as usize;
+    if index.len() != offset + width_by(offset) * count as usize {
         return refuse(answers::WRONG_INDEX, 0);
     }
     Verdict::Clear
@@ -143,6 +180,15 @@ fn start_at(index: &[u8], offset: usize, width: usize, k: usize) -> usize
     octets::word(index, offset + width * k, width) as usize
 }
 
+// The same by the offset that stands in the index.
+fn start_of(index: &[u8], k: usize) -> usize
+    requires { ⌜ k < mostRecords ⌝ }
+    ensures { λ r. ⌜ r ≡ startOf (now (index .entry)) k ⌝ }
+{
+    let offset = word32(index, 12) as usize;
+    start_at(index, offset, width_by(offset), k)
+}
+
 // Where address record k starts, by the index.
 pub fn entry_at(book: &[u8], index: &[u8], k: usize) -> Placed
     ensures { λ r. ⌜ r ≡ entryOf (now (book .entry)) (now (index .entry)) k ⌝ }
@@ -156,7 +202,7 @@ pub fn entry_at(book: &[u8], index: &[u8], k: usize) -> Placed
     if let Verdict::Refused(r) = w {
         return Placed::Refused(r);
     }
-    let at = start_at(index, STARTS_OFFSET, ENTRY_WIDTH, k);
+    let at = start_of(index, k);
     if at < book.len() {
         return Placed::At(at);
     }
@@ -218,6 +264,6 @@ pub fn lookup_indexed(book: &[u8], index: &[u8], k: usize, tag: u32) -> Looked
         return Looked::Refused(r);
     }
     let columns = t.address;
-    let at = start_at(index, STARTS_OFFSET, ENTRY_WIDTH, k);
+    let at = start_of(index, k);
     look_at(book, columns, at, tag)
 }

@@ -5,7 +5,7 @@ use Rattle.index.proofs.make_index.Tie as tie
 use Rattle.index.proofs.make_index.Reads as reads
 use Rattle.index.proofs.make_index.Lts as lts
 use Rattle.book.proofs.judge.Reads as judge-reads
-use Rattle.index.proofs.put_fields.Reads as put-fields-reads
+use Rattle.index.proofs.put_front.Reads as put-front-reads
 use Rattle.index.proofs.put_starts.Reads as put-starts-reads
 use Rattle.octets.proofs.word32.Reads as word32-reads
 
@@ -30,8 +30,8 @@ returns c = (search makes, search leaves)
 word32-requires : tie.Need-word32-requires
 word32-requires c κs = search needs
 
-put-fields-requires : tie.Need-put-fields-requires
-put-fields-requires c κs = search needs
+put-front-requires : tie.Need-put-front-requires
+put-front-requires c κs = search needs
 
 put-starts-requires : tie.Need-put-starts-requires
 put-starts-requires c κs = (search make-first, search make-count, search needs)
@@ -56,7 +56,7 @@ make-index-spec =
     add-size
     returns
     word32-requires
-    put-fields-requires
+    put-front-requires
     put-starts-requires
     returns-2
     same-length
