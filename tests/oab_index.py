@@ -85,7 +85,7 @@ def through(folder):
     for number in range(40):
         table = books.some_table(rng, address=rng.choice((1, 2, 5, 8, 9)), records=rng.choice((1, 2, 3)), most=4)
         octets, k = books.octets_of(table), rng.randrange(len(table[3]))
-        index = indexes.own(octets)
+        index = (indexes.own, indexes.old)[number // 2 % 2](octets)
         if number % 2:
             octets = books.random_damage(octets, rng)
         book.write_bytes(octets)
@@ -122,8 +122,9 @@ def refused(folder):
         for words in (('get', '--index', saved, book, 9, '00000000'), ('show', '--index', saved, book, 0),
                       ('get', '--index', saved, book, 'header', tag)):
             says(words, saved, ('refused', 19, 0), run(*words), b'')
-    for start in indexes.outside(octets):
-        saved.write_bytes(indexes.with_entry(indexes.own(octets), 1, start))
+    for index, start in ((index, start) for index in (indexes.own(octets), indexes.old(octets))
+                         for start in indexes.outside(octets, index)):
+        saved.write_bytes(indexes.with_entry(index, 1, start))
         for words in (('get', '--index', saved, book, 1, tag), ('show', '--index', saved, book, 0, 1)):
             says(words, saved, ('refused', 19, 0), run(*words), b'')
         differs('the other record', run('get', book, 0, tag), run('get', '--index', saved, book, 0, tag))

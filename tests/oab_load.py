@@ -1,4 +1,4 @@
-"""The command under load: signals in the middle of a save, books of 16 MiB, many corrections at once, progress.
+"""The command under load: signals in the middle of a save, books up to the limit, many corrections at once, progress.
 
 Run from the top: python3 tests/oab_load.py. Ends with "N runs, 0 differ".
 """
@@ -11,46 +11,18 @@ import signal
 import subprocess
 import threading
 import time
-import zlib
 
 import oab_tools
 from oab_tools import content, differs, refusal, run
 
-from model import books, oab
-
-
-def big_book():
-    """A book of exactly 16,777,216 octets: many records, the last one filled up."""
-    columns = [(0x39FE001F, 2), (0x3001001F, 0)]
-    body = oab.metadata_octets([], columns) + oab.record_octets([])
-    rows, count = [], 0
-    room = 16_777_216 - 12 - len(body)
-    while room > 2000:
-        row = oab.record_octets([b'%06d@example\0' % count, b'x' * (300 + count % 200) + b'\0'])
-        rows.append(row)
-        room -= len(row)
-        count += 1
-    rows.append(oab.record_octets([b'last\0', b'y' * (room - 11) + b'\0']))
-    return sealed(body + b''.join(rows), count + 1), count + 1
-
-
-def sealed(body, count):
-    """The book whose octets behind the header are these; zlib's check, its last step undone, is the serial."""
-    return oab.four(32) + oab.four(zlib.crc32(body) ^ 0xFFFFFFFF) + oab.four(count) + body
-
-
-def with_address(octets, address):
-    """The big book with another address in its first record, which stands at 44."""
-    size = oab.word(octets, 44)
-    row = oab.record_octets([address + b'\0', octets[octets.index(0, 49) + 1:44 + size]])
-    return sealed(octets[12:44] + row + octets[44 + size:], oab.word(octets, 8))
+from model import books, large, oab
 
 
 def stopped(folder):
     """Signals in the middle of a save: the old book or the new one stands there, and after INT, TERM and HUP nothing
     beside it. (KILL can leave a file beside it: nothing can take it away.)"""
-    octets = big_book()[0]
-    want = with_address(octets, b'a')
+    octets, places = large.book(16_777_216)
+    want = large.with_first(octets, places, b'a')
     rng = random.Random(4)
     book = folder / 'book'
     stops = 0
@@ -76,58 +48,89 @@ def stopped(folder):
     differs('some were stopped', True, stops > 5)
 
 
-def places_in(octets):
-    """Where the records of the big book start, by their sizes."""
-    places = [44]
-    while places[-1] + oab.word(octets, places[-1]) < len(octets):
-        places.append(places[-1] + oab.word(octets, places[-1]))
-    return places
-
-
-def big_indexed(path, octets, count):
-    """The index of a book of the greatest length, and the last record through it."""
-    index = path.with_suffix('.saved')
-    places = places_in(octets)
-    want = oab.four(count) + oab.four(len(octets)) + octets[4:8] + oab.four(16)
-    want += b''.join(place.to_bytes(3, 'little') for place in places)
-    differs('index', (0, b''), run('index', '-o', index, path)[:2])
-    differs('its octets', (True, count), (want == content(index), len(places)))
-    differs('get --index', (0, b'last\n'), run('get', '--index', index, path, count - 1, 'SmtpAddress')[:2])
-    status, shown, _ = run('show', '--index', index, path, 0)
-    differs('show --index', (0, b'0\t39FE001F\ttext\t000000@example'), (status, shown.splitlines()[0]))
+def through_index(path, octets, places):
+    """The index of a large book, its last record through it, the search; an old index is for shorter books."""
+    saved, count = path.with_suffix('.saved'), len(places)
+    differs('index', (0, b''), run('index', '-o', saved, path)[:2])
+    differs('its octets', True, large.index(octets, places) == content(saved))
+    differs('get --index', (0, b'last\n'), run('get', '--index', saved, path, count - 1, 'SmtpAddress')[:2])
+    for k in (0, 1, count // 2, count - 2):
+        status, shown, _ = run('show', '--index', saved, path, k)
+        differs('show --index', (0, b'%d\t39FE001F\ttext\t%06d@example' % (k, k)), (status, shown.split(b'\n')[0]))
+    saved.write_bytes(large.old_index(octets, places))
+    got = run('get', '--index', saved, path, 0, 'SmtpAddress')
+    if len(octets) <= 16_777_216:
+        differs('an old index', (0, b'000000@example\n'), got[:2])
+    else:
+        differs('an old index', (1, b'', True), (*got[:2], got[2].startswith(refusal(saved, 19, 0))))
     differs('find', (0, b'%d\t39FE001F\tlast\n' % (count - 1)), run('find', path, 'last')[:2])
     found = run('find', '-t', 'SmtpAddress', path, '@')
     differs('find in all', (0, count - 1), (found[0], found[1].count(b'\n')))
 
 
+def corrected(path, octets, places):
+    """Corrections that are saved: the file is the book written afresh, and the old one where a rule is broken."""
+    name = path.name
+    if len(octets) == oab.LIMIT:
+        got = run('set', path, 0, '39FE001F', '0000000@example')
+        differs((name, 'no octet more'), (1, True), (got[0], got[2].startswith(refusal(path, 16, 0))))
+        differs((name, 'unchanged'), True, octets == content(path))
+    shorter = large.with_first(octets, places, b'a')
+    differs((name, 'a shorter one'), 0, run('set', path, 0, '39FE001F', 'a')[0])
+    differs((name, 'saved'), True, shorter == content(path))
+    differs((name, 'read back'), (0, b'a\n'), run('get', path, 0, '39FE001F')[:2])
+    record = path.with_suffix('.record')
+    record.write_bytes(octets[places[0]:places[1]])
+    differs((name, 'deleted and inserted'), (0, 0), (run('delete', path, 0)[0], run('insert', path, 0, record)[0]))
+    differs((name, 'as it was'), True, octets == content(path))
+
+
 def big(folder):
-    octets, count = big_book()
-    assert len(octets) == 16_777_216
-    path = folder / 'big'
+    """Books of 16,777,216 octets, of 90,000,000 and of the limit, 268,435,456; one octet more is refused."""
+    for size in (16_777_216, 16_777_217, 90_000_000, oab.LIMIT):
+        octets, places = large.book(size)
+        path = folder / f'book{size}'
+        path.write_bytes(octets)
+        good = f'{path}: good, {size} octets, {len(places)} records\n'.encode()
+        differs(('check', size), (0, good), run('check', path)[:2])
+        through_index(path, octets, places)
+        if size != 16_777_217:
+            corrected(path, octets, places)
+            listed = run('list', path)
+            differs(('its listing', size), (0, len(places) + 2), (listed[0], listed[1].count(b'\n')))
+        if size == 90_000_000:
+            cut_meanwhile(path, octets)
+        if size == oab.LIMIT:
+            too_long(path, octets, places)
+        for left in folder.iterdir():
+            left.unlink()
+
+
+def too_long(path, octets, places):
+    """One octet over the limit: 1 from every command that judges, also through an index, and nothing is changed."""
+    octets += b'x'
     path.write_bytes(octets)
-    big_indexed(path, octets, count)
-    differs('16 MiB', (0, f'{path}: good, 16777216 octets, {count} records\n'.encode()), run('check', path)[:2])
-    listed = run('list', path)
-    differs('its listing', (0, count + 2), (listed[0], listed[1].count(b'\n')))
-    got = run('set', path, 0, '39FE001F', '0000000@example')
-    differs('no octet more', (1, True), (got[0], got[2].startswith(refusal(path, 16, 0))))
-    differs('unchanged', True, octets == path.read_bytes())
-    differs('a shorter one', 0, run('set', path, 0, '39FE001F', 'a')[0])
-    differs('read back', (0, b'a\n'), run('get', path, 0, '39FE001F')[:2])
-    path.write_bytes(octets + b'x')
-    got = run('check', path)
-    differs('an octet too many', (1, True), (got[0], got[2].startswith(refusal(path, 1, 0))))
+    saved = path.with_suffix('.saved')
+    saved.write_bytes(large.index(octets, places))
+    for words in (('check', path), ('list', path), ('get', path, 0, '39FE001F'), ('set', path, 0, '39FE001F', 'a'),
+                  ('get', '--index', saved, path, 0, '39FE001F'), ('index', '-o', path.with_suffix('.new'), path)):
+        got = run(*words)
+        differs(('an octet too many', words), (1, b'', True), (*got[:2], got[2].startswith(refusal(path, 1, 0))))
+    differs('nothing is changed', (True, None), (octets == content(path), content(path.with_suffix('.new'))))
     got = run('check', '-', stdin=octets + b'x' * 100_000)
     differs('many too many, from a pipe', (1, True), (got[0], got[2].startswith(refusal('-', 1, 0))))
-    path.write_bytes(octets)
+
+
+def cut_meanwhile(path, octets):
+    """The book is cut and put back while it is read."""
     stop = threading.Event()
 
-    def cut():                                 # the book is cut and put back while it is read
+    def cut():
         while not stop.is_set():
             with open(path, 'r+b') as file:
                 file.truncate(8_000_000)
                 file.seek(8_000_000)
-                file.write(octets[8_000_000:])
+                file.write(memoryview(octets)[8_000_000:])
 
     worker = threading.Thread(target=cut)
     worker.start()
@@ -168,7 +171,7 @@ def many(folder):
 
 def progress(folder):
     """Over a second on a terminal: how far it is, wiped out at the end. Elsewhere, and with -q, nothing."""
-    octets = big_book()[0]
+    octets = large.book(16_777_216)[0]
     book = folder / 'book'
     book.write_bytes(octets)
     lines = b''.join(b'set %d 39FE001F a\n' % number for number in range(150))

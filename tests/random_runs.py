@@ -45,10 +45,10 @@ def some_book(rng):
 
 
 def some_index(rng, octets, table):
-    """The book's own index, a damaged one, or any octets."""
+    """The book's own index, of either kind, a damaged one, or any octets."""
     if table is None or rng.random() < 0.2:
         return some_octets(rng, 40)
-    index = indexes.own(octets)
+    index = rng.choice((indexes.own, indexes.own, indexes.old))(octets)
     return index if rng.random() < 0.6 else books.random_damage(index, rng)
 
 

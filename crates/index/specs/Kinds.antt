@@ -3,6 +3,7 @@
 use Prim.Native.Nat.{ℕ, _<_}
 use native.Mathlib.Omega.{arith}
 use mathlib.Core.Path.{_≡_}
+use mathlib.Core.Bool.{true, false}
 use mathlib.Core.List.{List}
 use lib.Dec.{eqb, leb}
 use lib.ListN.{length, drop}
@@ -39,7 +40,10 @@ module _ (xs ix : List ℕ) (tables : throughTables xs ≡ clear) where
   -- An old index beside a longer book.
   pub old-beside-longer : offsetIn ix ≡ oldOffset → oldMost < length xs → Unread xs ix
   unfolding kindAt
-  old-beside-longer o h = unread (rw (eq-eqb (offsetIn ix) oldOffset o, lt-leb (length xs) oldMost h))
+  old-beside-longer o h =
+      let f : eqb (offsetIn ix) oldOffset ≡ true = eq-eqb _ _ o in
+      let g : leb (length xs) oldMost ≡ false = lt-leb (length xs) oldMost h in
+      unread cc
 
   -- An offset that is neither.
   pub offset-unknown : (offsetIn ix ≡ oldOffset → ⊥) → (offsetIn ix ≡ startsOffset → ⊥) → Unread xs ix

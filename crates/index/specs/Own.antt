@@ -3,6 +3,7 @@
 use Prim.Native.Nat.{ℕ, _+_, _*_, _^_, _≤_, _<_}
 use native.Mathlib.Omega.{arith}
 use mathlib.Core.Path.{_≡_, refl, sym, ap, _∙_}
+use mathlib.Core.Bool.{true}
 use mathlib.Core.List.{List, [], _++_, append-assoc}
 use lib.Dec.{eqb, ltb, leb}
 use lib.ListN.{length, take, drop, getD}
@@ -217,8 +218,10 @@ module _ (xs : List ℕ) (o : Octets xs) (e : judge xs ≡ clear) where
     old-kind : kindAt xs (oldIndexOf b) ≡ clear
     unfolding kindAt
     old-kind =
-        let f : offsetIn (oldIndexOf b) ≡ oldOffset = own-offset oldOffset oldWidth [] refl (omega arith) in
-        rw (f, le-leb (length xs) oldMost short)
+        let f : eqb (offsetIn (oldIndexOf b)) oldOffset ≡ true =
+        eq-eqb _ _ (own-offset oldOffset oldWidth [] refl (omega arith)) in
+        let g = met wrongIndex 0 (le-leb (length xs) oldMost short) in
+        cc
 
     -- An old index of the book answers as the full lookup does.
     pub old-indexed-is : (k t : ℕ) → indexedOf xs (oldIndexOf b) k t ≡ lookupOf xs (Number k) t

@@ -1,0 +1,131 @@
+"""The calls for C programs at the limits of length: a book of 268,435,456 octets is judged, looked up in, written and
+corrected, and with one octet more each call has its published refusal and changes nothing. An old index is read beside
+16,777,216 octets and not beside one more.
+
+Run from the top: python3 tests/face_at_limit.py. The library is that of face_against_model.py. What is expected is by
+hand (tests/model/large.py), since the model would take minutes. Ends with "N calls, 0 differ".
+"""
+
+import ctypes
+import sys
+
+sys.dont_write_bytecode = True
+
+import face_against_model as face
+from face_against_model import Found, Judged, Length, Start, Writing, compare, octets, refused, words
+from model import large, oab
+
+SMTP, NAME = (tag for tag, _ in large.COLUMNS)
+OLD_LIMIT = 16_777_216
+
+
+def u64(number):
+    return ctypes.c_uint64(number)
+
+
+def lent(data):
+    """A bytearray lent where it stands: no copy."""
+    return (ctypes.c_uint8 * len(data)).from_buffer(data), ctypes.c_size_t(len(data))
+
+
+def judged(lib, book, places, refusal):
+    out = Judged()
+    answer = lib.wt_judge(*lent(book), ctypes.byref(out))
+    want = refused(out, refusal[1]) if refusal else [0, len(book), len(places), 40, places[0], 0, 2]
+    compare(('judge', len(book)), (refusal[0] if refusal else 0, want), (answer, out.list()))
+
+
+def looked(lib, book, index, k, start, refusal):
+    """The entry and the value of the address, through an index."""
+    out, found = Start(), Found()
+    number, place = refusal or (0, 0)
+    answer = lib.wt_index_entry(*lent(book), *octets(index), u64(k), ctypes.byref(out))
+    compare(('entry', len(book), k), (number, [place, 0 if refusal else start]), (answer, out.list()))
+    answer = lib.wt_lookup_indexed(*lent(book), *octets(index), u64(k), ctypes.c_uint32(SMTP), ctypes.byref(found))
+    end = 0 if refusal else book.index(0, start + 5) + 1
+    want = refused(found, place) if refusal else [0, 1, start + 5, end]
+    compare(('indexed', len(book), k), (number, want), (answer, found.list()))
+
+
+def read(lib):
+    for size in (OLD_LIMIT, OLD_LIMIT + 1, oab.LIMIT, oab.LIMIT + 1):
+        book, places = large.book(size)
+        refusal = (1, 0) if size > oab.LIMIT else None
+        judged(lib, book, places, refusal)
+        made, out = bytearray(b'\xA5' * (20 + 4 * len(places))), Length()
+        answer = lib.wt_index(*lent(book), *lent(made), ctypes.byref(out))
+        want = made if refusal else large.index(book, places)
+        numbers = refused(out, 0) if refusal else [0, len(made)]
+        compare(('index', size), (1 if refusal else 0, numbers, True), (answer, out.list(), made == want))
+        last = len(places) - 1
+        for k in (0, last // 2, last):
+            looked(lib, book, large.index(book, places), k, places[k], refusal)
+            old = refusal or ((19, 0) if size > OLD_LIMIT else None)
+            looked(lib, book, large.old_index(book, places), k, places[k], old)
+
+
+def correct(lib, call, book, length, words_of, refusal, want):
+    """One correction in a buffer of its own; a refused one leaves every octet."""
+    buffer, out = bytearray(book), Length()
+    answer = call(*lent(buffer), u64(length), *words_of, ctypes.byref(out))
+    number, place = refusal or (0, 0)
+    numbers = refused(out, place) if refusal else [0, len(want)]
+    same = buffer[:len(want)] == want if not refusal else buffer == book
+    compare((call.__name__, length, number), (number, numbers, True), (answer, out.list(), same))
+
+
+def corrections(lib):
+    """At the limit a value that is longer, and a record more, break the rule on length: 16 before 17. Shorter ones and
+    as long ones are done."""
+    book, places = large.book(oab.LIMIT)
+    tag, length = ctypes.c_uint32(SMTP), len(book)
+    longer, shorter = octets(b'0000000@example\0'), octets(b'a\0')
+    for room in (0, 1, 64):
+        correct(lib, lib.wt_set, book + bytes(room), length, (u64(0), tag, *longer), (16, 0), None)
+        correct(lib, lib.wt_insert, book + bytes(room), length, (u64(1), *octets(book[places[0]:places[1]])), (16, 0),
+                None)
+    correct(lib, lib.wt_set, book, length, (u64(0), tag, *shorter), None, large.with_first(book, places, b'a'))
+    correct(lib, lib.wt_set, book, length, (u64(0), tag, *octets(b'999999@example\0')), None,
+            large.with_first(book, places, b'999999@example'))
+    correct(lib, lib.wt_set, book + b'\0', length + 1, (u64(0), tag, *shorter), (1, 0), None)
+
+
+def written(lib):
+    """One record whose name fills the book up to the limit; a name one octet longer is 16, and the state stays."""
+    front = len(large.FRONT)
+    for over in (0, 1):
+        name = b'n' * (oab.LIMIT + over - front - 4 - 1 - 2 - 1)
+        buffer, state = bytearray(oab.LIMIT + 8), Writing()
+        out = lent(buffer)
+
+        def step(call, *arguments, want=0):
+            before = state.list()[1:], bytes(buffer) if want else None
+            answer = call(ctypes.byref(state), *arguments)
+            kept = want == 0 or (state.list()[1:], bytes(buffer)) == before
+            compare((call.__name__, over), (want, True), (answer, kept))
+
+        step(lib.wt_begin, *words([]), *words([]), *words([SMTP, NAME]), *words([2, 0]), *out)
+        step(lib.wt_open, *out)
+        step(lib.wt_close, *out)
+        step(lib.wt_open, *out)
+        step(lib.wt_give_octets, *out, ctypes.c_uint32(SMTP), *octets(b'a'))
+        step(lib.wt_give_octets, *out, ctypes.c_uint32(NAME), *octets(name), want=16 if over else 0)
+        if over:
+            continue
+        step(lib.wt_close, *out)
+        step(lib.wt_finish, *out)
+        book = bytearray(large.FRONT) + oab.record_octets([b'a\0', name + b'\0'])
+        compare('written', (oab.LIMIT, True), (state.written, large.sealed(book, 1) == buffer[:state.written]))
+
+
+def main():
+    lib = face.load()
+    read(lib)
+    corrections(lib)
+    written(lib)
+    print(f'{face.calls} calls at the limits of length, {face.differ} differ')
+    return 1 if face.differ else 0
+
+
+if __name__ == '__main__':
+    sys.exit(main())
