@@ -147,7 +147,7 @@ module _ (xs : List ℕ) (o : Octets xs) (e : judge xs ≡ clear) where
 
     module _ (width : widthBy offset ≡ w) (kind : kindAt xs ix ≡ clear) (reach : length xs ≤ 256 ^ w) where
       -- it is that book's
-      own-index : indexAt xs ix ≡ clear
+      pub own-index : indexAt xs ix ≡ clear
       unfolding indexAt
       own-index =
           let k = good-keeps xs e in
@@ -167,7 +167,7 @@ module _ (xs : List ℕ) (o : Octets xs) (e : judge xs ≡ clear) where
           (met wrongIndex 0 (eq-eqb _ _ z)))))
 
       -- its entry k is where record k starts
-      own-start : (k : ℕ) → k < countIn xs → startOf ix k ≡ placeIn xs k
+      pub own-start : (k : ℕ) → k < countIn xs → startOf ix k ≡ placeIn xs k
       own-start k h =
           let n = rows-count xs in
           let m = starts-count b in
@@ -182,10 +182,10 @@ module _ (xs : List ℕ) (o : Octets xs) (e : judge xs ≡ clear) where
           less : (t : ℕ) → getD (startsOf b) k 0 < length xs → length xs ≤ t → getD (startsOf b) k 0 < t
           less t g r = omega arith
 
-      indexed-own : (k t : ℕ) → indexedOf xs ix k t ≡ lookupOf xs (Number k) t
+      pub indexed-own : (k t : ℕ) → indexedOf xs ix k t ≡ lookupOf xs (Number k) t
       indexed-own = indexed-by xs e ix own-index own-start
 
-      entry-own : (k : ℕ) → entryOf xs ix k ≡ placedOf xs (Number k)
+      pub entry-own : (k : ℕ) → entryOf xs ix k ≡ placedOf xs (Number k)
       entry-own = entry-by xs e ix own-index own-start
 
   -- ---- the kind that is made
