@@ -128,8 +128,8 @@ uint32_t wt_index(const uint8_t *WT_RESTRICT book, size_t octets, uint8_t *WT_RE
  * lookup the record's own, 2, 8, 9, 10, 11 and 12.
  *
  * In a good book and with the index that wt_index makes of it, or an old one that was made of it, the entry is the
- * record's place and the lookup is wt_lookup. With any other pair each call still ends, and what it hands back lies in the book; whose value that is
- * isn't promised. So an index is made anew when its book has changed. */
+ * record's place and the lookup is wt_lookup. With any other pair each call still ends, and what it hands back lies in
+ * the book; whose value that is isn't promised. So an index is made anew when its book has changed. */
 typedef struct {
     uint64_t place, start;
 } wt_start;

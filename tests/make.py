@@ -607,7 +607,7 @@ class IndexStream(Stream):
 
 
 def index_own(stream, rng, table):
-    """A book and its own index: made where there is room; through it and through an old one every lookup is the full."""
+    """A book and its own index: made where there is room; through it or an old one every lookup is the full one."""
     book = books.octets_of(table)
     index, before = indexes.own(book), indexes.old(book)
     for room in (len(index), len(index) - 1, len(index) + 7, 0, rng.randrange(len(index))):
@@ -1324,7 +1324,7 @@ def correcting_small(stream):
             if room or stream.buffer != small:  # else the last call changed nothing
                 stream.new(small, room)
             stream.call(call)
-    for length in list(range(0, 78, 3)) + [77, 79, 80, 84, 90, 91, 1000, 16_777_217, oab.LIMIT, oab.LIMIT + 1, 0xFFFFFFFF]:
+    for length in [*range(0, 78, 3), 77, 79, 80, 84, 90, 91, 1000, 16_777_217, oab.LIMIT, oab.LIMIT + 1, 0xFFFFFFFF]:
         stream.new(small, 12)                  # the stated length: over the buffer 15, else the book's refusal
         stream.state(length)
         for call in (calls[0], set_call(0, 0x3001001F, b'Q\0'), clear_call(0, 0x3001001F), insert_call(0, records[1]), delete_call(0)):

@@ -1,5 +1,5 @@
-/* measure N PROGRAM WORDS..: runs it and writes seconds elapsed and the most kibibytes resident at once to descriptor N.
- * A small program of its own, since a process counts the memory of the one that started it as its own. */
+/* measure N PROGRAM WORDS..: runs it and writes seconds elapsed and the most kibibytes resident at once to descriptor
+ * N. A small program of its own, since a process counts the memory of the one that started it as its own. */
 #include <stdio.h>
 #include <stdlib.h>
 #include <sys/resource.h>

@@ -96,5 +96,6 @@ unfolding indexBy
 index-long offset w more b h =
     let head : List ℕ = fieldsOf (length (b .rows)) (length (bookOctets b)) (serialOf (bodyOctets b)) offset in
     length-append (head ++ more) (entriesOf w (startsOf b))
-    ∙ ap₂ (λ (m n : ℕ). m + n) (front-long (length (b .rows)) (length (bookOctets b)) (serialOf (bodyOctets b)) offset more ∙ h)
+    ∙ ap₂ (λ (m n : ℕ). m + n)
+    (front-long (length (b .rows)) (length (bookOctets b)) (serialOf (bodyOctets b)) offset more ∙ h)
     (entries-long w (startsOf b) ∙ ap (λ (n : ℕ). w * n) (starts-count b))

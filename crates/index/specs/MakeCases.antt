@@ -202,7 +202,8 @@ module _ (b d : List ℕ) (j : Judgement) (e : j ≡ judgedOf b) where
             stored-join d head es 0 startsOffset (omega arith) (omega arith) in
             let t : head ++ es ≡ indexOf (bookIn b) =
             rw (entries-are, u, good .count)
-            (sym (own-is b (octets-from b o) (good .clears) startsOffset entryWidth (leOf 4 entryWidth) refl (omega arith))) in
+            (sym (own-is b (octets-from b o) (good .clears)
+            startsOffset entryWidth (leOf 4 entryWidth) refl (omega arith))) in
             w ∙ ap (λ (x : List ℕ). stored x startsOffset es) v ∙ z ∙ ap (stored d 0) t
             ∙ rw (verdict-by, le-leb size (length d) g)
 

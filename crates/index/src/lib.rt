@@ -1,5 +1,5 @@
-// A saved index of a book (requests 103 and 111): made from the book, read beside it, and a lookup of one address record through
-// it, whose cost doesn't grow with the number of records.
+// A saved index of a book (requests 103 and 111): made from the book, read beside it, and a lookup of one address record
+// through it, whose cost doesn't grow with the number of records.
 use answers::Made;
 use answers::Refusal;
 use answers::Verdict;
