@@ -35,7 +35,7 @@ static int read_all(int fd, struct octets *o)
         }
         if (n == 0) break;
         o->length += (size_t)n;
-        chunk = 1 << 16;
+        chunk = o->room > o->length ? o->room - o->length : 1 << 16;
     }
     return grow(o, 1);
 }

@@ -17,7 +17,7 @@ import time
 import oab_tools
 from oab_tools import NOBODY, as_nobody, content, differs, run
 
-from model import books, oab
+from model import books, large, oab
 
 SMALL = books.small_book()
 WITH_Q = oab.write_book(*books.SMALL_TABLE[:3], [[b'b@c\0', b'Q\0', books.SMALL_TABLE[3][0][2]]])
@@ -217,16 +217,27 @@ def closed(folder):
 
 
 def little_memory(folder):
-    """A small book takes little memory, also where it is corrected."""
-    if 'sanitized' in os.environ.get('OAB', '') or not oab_tools.is_native(oab_tools.program):
+    """A book takes memory by its size: 8 MiB beside it are enough, also where a small one is corrected. Of the plain
+    command, since the sanitizer takes memory of its own."""
+    plain = oab_tools.TOP / 'target/oab/oab'
+    if not plain.is_file() or not oab_tools.is_native(plain):
         return
+
+    def within(octets):
+        most = octets + (8 << 20)
+        return {'command': plain, 'preexec_fn': lambda: resource.setrlimit(resource.RLIMIT_AS, (most, most))}
+
     book = put(folder / 'book')
-
-    def limited():
-        resource.setrlimit(resource.RLIMIT_AS, (8 << 20, 8 << 20))
-
-    differs('check in 8 MiB', 0, run('check', book, preexec_fn=limited)[0])
-    differs('set in 8 MiB', 0, set_q(book, preexec_fn=limited)[0])
+    differs('check in 8 MiB', 0, run('check', book, **within(0))[0])
+    differs('set in 8 MiB', 0, set_q(book, **within(0))[0])
+    octets, places = large.book(90_000_000)
+    put(book, octets)
+    index = put(folder / 'index', large.index(octets, places))
+    last = (len(places) - 1, 'SmtpAddress')
+    differs('a large book', 0, run('check', book, **within(len(octets)))[0])
+    differs('in less than its size', 2, run('check', book, **within(len(octets) - (16 << 20)))[0])
+    differs('through its index', (0, b'last\n'),
+            run('get', '--index', index, book, *last, **within(len(octets)))[:2])
 
 
 if __name__ == '__main__':

@@ -48,8 +48,8 @@ def build():
     return program
 
 
-def run(*words, stdin=b'', **more):
-    got = subprocess.run([program, *(w if isinstance(w, bytes) else str(w) for w in words)], input=stdin,
+def run(*words, stdin=b'', command=None, **more):
+    got = subprocess.run([command or program, *(w if isinstance(w, bytes) else str(w) for w in words)], input=stdin,
                          capture_output=True, **more)
     return got.returncode, got.stdout, got.stderr
 
