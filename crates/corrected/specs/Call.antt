@@ -2,7 +2,7 @@
 -- the model, so every theorem of this crate is also that of a book with unused bits set. They stay in place, and the serial is worked out with them.
 use Prim.Native.Nat.{ℕ, _≤_, _<_}
 use native.Mathlib.Omega.{arith}
-use mathlib.Core.Path.{_≡_, refl, sym, ap, _∙_}
+use mathlib.Core.Path.{_≡_, sym, ap, _∙_}
 use mathlib.Core.List.{List}
 use lib.Dec.{leb}
 use lib.ListN.{length, take}
@@ -10,7 +10,7 @@ use borrow.Author.Tests.{leb-true, le-leb}
 use Rattle.octets.specs.Octets.{octetAt, Octets, octets-take}
 use Rattle.answers.specs.Numbers.{outOfTurn, breaksRule, noRoom, mostOctets}
 use Rattle.answers.specs.declared.Verdict.{Verdict}
-use Rattle.answers.specs.declared.Verdict.the-variants.{Clear as clear, Refused}
+use Rattle.answers.specs.declared.Verdict.the-variants.{Clear as clear}
 use Rattle.answers.specs.Verdict.{need, kept, both, apart, met, unmet}
 use Rattle.book.specs.Book.{Book, Sound, bookOctets, judge, judge-back}
 use Rattle.book.specs.Whole.{judge-sound}

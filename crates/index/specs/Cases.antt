@@ -4,7 +4,7 @@ use native.Mathlib.Omega.{arith}
 use native.Mathlib.Nat.{sub-zero, mul-le-mul, le-of-lt}
 use mathlib.Core.Path.{_≡_, refl, sym, _∙_}
 use mathlib.Core.List.{List, []}
-use lib.Dec.{eqb, ltb, leb}
+use lib.Dec.{ltb}
 use lib.ListN.{length, take, drop}
 use mir.Val.{Fits}
 use mir.Syntax.{w64}
@@ -13,7 +13,7 @@ use Rattle.octets.specs.Word.{wordOf, narrowWord}
 use Rattle.answers.specs.Numbers.{outOfTurn, wrongIndex, mostRecords}
 use Rattle.answers.specs.declared.Verdict.{Verdict}
 use Rattle.answers.specs.declared.Verdict.the-variants.{Clear as clear, Refused}
-use Rattle.answers.specs.Verdict.{refused, _then_, need, apart, unmet, then-assoc}
+use Rattle.answers.specs.Verdict.{refused, _then_, need, apart, unmet}
 use Rattle.answers.specs.declared.Refusal.{Refusal}
 use Rattle.table.specs.declared.Columns.{Columns}
 use Rattle.table.specs.declared.Found.{Found}

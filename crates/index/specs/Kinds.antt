@@ -1,7 +1,6 @@
 -- What isn't an index of either kind, and what an old index isn't for: both calls refuse it once the book's tables are
 -- good, whatever else stands in it (request 111).
 use Prim.Native.Nat.{ℕ, _<_}
-use native.Mathlib.Omega.{arith}
 use mathlib.Core.Path.{_≡_}
 use mathlib.Core.Bool.{true, false}
 use mathlib.Core.List.{List}

@@ -5,7 +5,7 @@ use native.Mathlib.Omega.{arith}
 use mathlib.Core.Path.{_≡_, sym, ap, _∙_}
 use mathlib.Core.List.{List}
 use lib.ListN.{length, take, drop, length-drop}
-use borrow.Author.Tests.{le-leb, lt-leb}
+use borrow.Author.Tests.{lt-leb}
 use Rattle.octets.specs.Cases.{split}
 use Rattle.octets.specs.Word.{wordOf}
 use Rattle.presence.specs.Presence.{room}

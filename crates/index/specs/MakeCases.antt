@@ -1,5 +1,5 @@
 -- The ways of the code that makes an index, on plain values.
-use Prim.Native.Nat.{ℕ, zero, suc, _+_, _*_, _^_, _≤_, _<_}
+use Prim.Native.Nat.{ℕ, suc, _+_, _*_, _^_, _≤_, _<_}
 use native.Mathlib.Omega.{arith}
 use native.Mathlib.Nat.{mul-suc, mul-zero, add-zero, mul-le-mul-left}
 use native.Mathlib.Numerals.{add-one}
@@ -10,24 +10,23 @@ use lib.ListN.{length, drop, getD}
 use mir.Val.{Fits}
 use mir.Syntax.{w8, w64}
 use borrow.Author.Tests.{le-leb, lt-leb}
-use Rattle.octets.specs.Octets.{Octets, octets-from}
+use Rattle.octets.specs.Octets.{octets-from}
 use Rattle.octets.specs.Splice.{stored, stored-nil, stored-join}
 use Rattle.octets.specs.Word.{leOf, wordOf, length-leOf}
 use Rattle.answers.specs.Numbers.{noRoom, mostRecords}
 use Rattle.answers.specs.declared.Made.the-variants as made
 use Rattle.answers.specs.declared.Refusal.{Refusal}
 use Rattle.answers.specs.Verdict.{need}
-use Rattle.book.specs.Book.{recordsIn, recordsPlace, countIn, judge}
 use Rattle.book.specs.Read.{bookIn, rows-count}
 use Rattle.book.specs.Judged.{judgedOf}
 use Rattle.book.specs.Good.{GoodIs, good-is, refused-by, good-keeps}
 use Rattle.book.specs.declared.Judgement.{Judgement}
 use Rattle.book.specs.declared.Judged.the-variants as judged
-use Rattle.lookup.specs.Places.{walkTo, placeOf, placeIn}
+use Rattle.lookup.specs.Places.{walkTo, placeOf}
 use Rattle.lookup.specs.PlaceCases.{walk-more, number-start}
 use Rattle.lookup.specs.Cases.{walk-place}
 use Rattle.index.specs.Index.{startsOffset, entryWidth, fieldsOf, entriesOf, listed, startsOf, indexOf, makeAt}
-use Rattle.index.specs.Index.{makeAnswer, makeOctets, serialIn}
+use Rattle.index.specs.Index.{makeAnswer, makeOctets}
 use Rattle.index.specs.Entries.{entries-long, entries-snoc, listed-long, listed-same, listed-snoc, fields-long}
 use Rattle.index.specs.Entries.{front-long}
 use Rattle.index.specs.Own.{own-is, own-place, own-long}

@@ -5,7 +5,7 @@ use native.Mathlib.Omega.{arith}
 use mathlib.Core.Path.{_≡_, refl, sym, ap, _∙_}
 use mathlib.Core.Bool.{true}
 use mathlib.Core.List.{List, [], _++_, append-assoc}
-use lib.Dec.{eqb, ltb, leb}
+use lib.Dec.{eqb, ltb}
 use lib.ListN.{length, take, drop, getD}
 use borrow.Author.Tests.{eq-eqb, eqb-true, lt-ltb, le-ltb, le-leb, leb-true}
 use Rattle.octets.specs.Cases.{split}
@@ -22,7 +22,7 @@ use Rattle.table.specs.Columns.{tagsOf}
 use Rattle.book.specs.Book.{Book, Sound, bodyOctets, bookOctets, colsIn, countIn, judge}
 use Rattle.book.specs.Read.{bookIn, rows-count, book-reads}
 use Rattle.book.specs.Whole.{body-in}
-use Rattle.book.specs.Front.{throughTables, frontAt, recordsAt, serialAt, judge-tables, judge-front}
+use Rattle.book.specs.Front.{throughTables, frontAt, recordsAt, judge-tables, judge-front}
 use Rattle.book.specs.Good.{good-keeps}
 use Rattle.lookup.specs.Places.{placeOf, placeIn, place-in}
 use Rattle.lookup.specs.Look.{columnIn, lookIn, lookupOf}

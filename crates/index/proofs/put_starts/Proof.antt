@@ -1,5 +1,5 @@
 use Prim.Native.Nat.{_+_, _-_, _*_, _^_, _≤_, _<_}
-use mathlib.Core.Path.{_≡_, refl}
+use mathlib.Core.Path.{_≡_}
 use lib.ListN.{length, drop}
 use Rattle.lookup.specs.Places.{walkTo}
 use Rattle.octets.specs.Splice.{stored}
