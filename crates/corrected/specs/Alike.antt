@@ -15,10 +15,9 @@ use Rattle.book.specs.Book.{Book, Sound, tablesOctets, bodyOctets, bookOctets, 
 use Rattle.book.specs.Whole.{body-in, records-short}
 use Rattle.lookup.specs.Places.{placeOf, place-in, place-first, row-below, record-from, head-from}
 use Rattle.lookup.specs.Look.{stretchOf}
-use Rattle.lookup.specs.Tagged.{columnsFor, rowFor}
 use Rattle.lookup.specs.declared.Which.{Which}
 use Rattle.lookup.specs.declared.Which.the-variants.{Header, Number}
-use Rattle.lookup.specs.Named.{startFor}
+use Rattle.lookup.specs.Named.{columnsFor, rowFor, startFor}
 use Rattle.lookup.specs.Named.{There}
 use Rattle.corrected.specs.Handed.{handedOf, octetsOf, stretch-handed, rowHanded, handed-is}
 

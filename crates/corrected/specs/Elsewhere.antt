@@ -17,13 +17,12 @@ use Rattle.entry.specs.Record.{row-long}
 use Rattle.book.specs.Book.{Book, countIn}
 use Rattle.lookup.specs.Look.{columnIn, stretchOf}
 use Rattle.lookup.specs.Laws.{column-in, column-tag}
-use Rattle.lookup.specs.Tagged.{columnsFor, rowFor}
 use Rattle.lookup.specs.declared.Which.{Which}
 use Rattle.editing.specs.Elsewhere.{set-columns, set-heads, set-cols, set-many, set-there, row-named, row-other}
-use Rattle.editing.specs.Done.{slotsUnder, setTo}
-use Rattle.lookup.specs.Named.{There, hasRecord}
+use Rattle.editing.specs.Done.{setTo}
+use Rattle.lookup.specs.Named.{There, columnsFor, slotsUnder, slots-reach, rowFor, row-sound, hasRecord, named-in}
 use Rattle.correcting.specs.Correct.{setOctets}
-use Rattle.corrected.specs.Named.{count-of, named-in, row-sound, slots-reach}
+use Rattle.corrected.specs.Named.{count-of}
 use Rattle.corrected.specs.Set.{SetDone}
 use Rattle.corrected.specs.Handed.{handedOf, octetsOf, stretch-handed, entryOn, handedIn, rowHanded, handed-is}
 use Rattle.corrected.specs.Alike.{metaOctets, Alike, meta-alike, handed-alike, alike}
@@ -62,7 +61,7 @@ module _ (d : List ℕ) (len : ℕ) (which : Which) (t : ℕ) (e : Option (List 
   -- every other record is as before, and so is every lookup in it
   pub set-elsewhere : (w : Which) → hasRecord old w ≡ true → (w ≡ which → ⊥) → Alike new w old w
   set-elsewhere w h n =
-      let l : There b w = named-in old b (x .corrects .reads) (x .corrects .sound) w h in
+      let l : There b w = named-in old b (count-of old b (x .corrects .reads) (x .corrects .sound)) w h in
       alike new old c b (x .corrects .comes) (x .corrects .reads) (x .corrects .again) (x .corrects .sound) w w (set-there which (x .may .column) e b (x .may .named) w l) l
       (set-columns which (x .may .column) e b w) (row-other which (x .may .column) e b (x .may .named) w n)
 

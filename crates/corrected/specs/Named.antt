@@ -6,7 +6,7 @@ use mathlib.Core.Bool.{true, false}
 use mathlib.Core.Option.{Option, none, some}
 use mathlib.Core.List.{List, [], append-nil}
 use lib.ListN.{length, getD, drop}
-use borrow.Author.Tests.{lt-ltb, ltb-true, eqb-true, eq-eqb}
+use borrow.Author.Tests.{eqb-true, eq-eqb}
 use Rattle.octets.specs.Octets.{Octets}
 use Rattle.answers.specs.declared.Walk.{Walk}
 use Rattle.answers.specs.declared.Walk.the-variants.{Ends, Broken}
@@ -17,18 +17,16 @@ use Rattle.table.specs.Columns.{tagsOf}
 use Rattle.table.specs.declared.Found.{Found}
 use Rattle.table.specs.declared.Found.the-variants.{At, Nothing}
 use Rattle.table.specs.Found.{isFound, columnOf}
-use Rattle.entry.specs.Record.{Slot, SoundEntry, SoundRow, noSlot}
-use Rattle.book.specs.Book.{Book, Sound, slots-long, rowSlots, bookOctets, headsIn, colsIn, countIn}
+use Rattle.entry.specs.Record.{Slot, SoundEntry, noSlot}
+use Rattle.book.specs.Book.{Book, Sound, bookOctets, headsIn, colsIn, countIn}
 use Rattle.book.specs.Whole.{heads-in, cols-in, body-in, count-in}
-use Rattle.lookup.specs.Places.{sound-at}
 use Rattle.lookup.specs.Look.{columnIn}
-use Rattle.lookup.specs.Tagged.{columnsFor, rowFor}
 use Rattle.lookup.specs.declared.Which.{Which}
 use Rattle.lookup.specs.declared.Which.the-variants.{Header, Number}
 use Rattle.editing.specs.Put.{slotsFor}
 use Rattle.editing.specs.Offered.{offered-value}
-use Rattle.editing.specs.Done.{slotsUnder, slots-in}
-use Rattle.lookup.specs.Named.{There, hasRecord}
+use Rattle.editing.specs.Done.{slots-in}
+use Rattle.lookup.specs.Named.{columnsFor, slotsUnder}
 use Rattle.correcting.specs.Correct.{fits, losing, columnFor, slotFor}
 
 -- ---- the book's own
@@ -36,14 +34,6 @@ use Rattle.correcting.specs.Correct.{fits, losing, columnFor, slotFor}
 module _ (xs : List ℕ) (b : Book) (r : xs ≡ bookOctets b) (s : Sound b) where
   pub count-of : countIn xs ≡ length (b .rows)
   count-of = ap countIn r ∙ count-in b s
-
-  pub named-in : (which : Which) → hasRecord xs which ≡ true → There b which
-  named-in Header h = tt
-  named-in (Number k) h = rw count-of at (ltb-true k (countIn xs) h)
-
-  pub has-named : (which : Which) → There b which → hasRecord xs which ≡ true
-  has-named Header h = refl
-  has-named (Number k) h = lt-ltb k (countIn xs) (rw count-of h)
 
   pub column-for : (which : Which) (t : ℕ) → columnFor xs which t ≡ columnIn t (tagsOf (columnsFor b which))
   column-for Header t = ap (λ (z : List ℕ). columnIn t (tagsOf (headsIn (drop 12 z)))) r ∙ rw (body-in b s, heads-in b s)
@@ -54,15 +44,6 @@ module _ (xs : List ℕ) (b : Book) (r : xs ≡ bookOctets b) (s : Sound b) wher
 
   pub slot-for : (which : Which) (c : ℕ) → slotFor xs which c ≡ getD (slotsUnder b which) c noSlot
   slot-for which c = ap (λ (z : List ℕ). getD (slotsFor z which) c noSlot) r ∙ ap (λ (l : List Slot). getD l c noSlot) (slots-in b s which)
-
--- a record of a sound book is a sound row under its columns
-pub row-sound : (b : Book) → Sound b → (w : Which) → There b w → SoundRow (slotsUnder b w) (rowFor b w)
-row-sound b s Header h = s .head
-row-sound b s (Number k) h = sound-at (rowSlots (b .cols)) (b .rows) k (s .rows) h
-
-pub slots-reach : (b : Book) (w : Which) → length (slotsUnder b w) ≡ length (columnsFor b w)
-slots-reach b Header = slots-long false (b .heads)
-slots-reach b (Number k) = slots-long true (b .cols)
 
 pub found-is : (f : Found) → isFound f ≡ true → f ≡ At (columnOf f)
 found-is (At c) h = refl

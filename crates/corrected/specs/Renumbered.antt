@@ -10,11 +10,10 @@ use lib.ListN.{length, take}
 use Rattle.entry.specs.Present.{Row}
 use Rattle.entry.specs.Record.{rowOctets}
 use Rattle.book.specs.Book.{Book, countIn}
-use Rattle.lookup.specs.Tagged.{columnsFor, rowFor}
 use Rattle.lookup.specs.declared.Which.{Which}
 use Rattle.lookup.specs.declared.Which.the-variants.{Header, Number}
 use Rattle.editing.specs.Edit.{edit}
-use Rattle.lookup.specs.Named.{There}
+use Rattle.lookup.specs.Named.{There, columnsFor, rowFor}
 use Rattle.editing.specs.Elsewhere.{edit-heads, edit-cols, edit-head, edit-many, row-before, there-before, row-new, there-new, row-behind, there-behind}
 use Rattle.correcting.specs.Correct.{insertOctets, deleteOctets}
 use Rattle.corrected.specs.Named.{count-of}

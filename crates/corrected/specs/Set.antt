@@ -21,14 +21,13 @@ use Rattle.entry.specs.Record.{Slot, SoundEntry, noSlot}
 use Rattle.book.specs.Book.{Book, bookOctets}
 use Rattle.lookup.specs.Look.{columnIn}
 use Rattle.lookup.specs.Laws.{column-in}
-use Rattle.lookup.specs.Tagged.{columnsFor}
 use Rattle.lookup.specs.declared.Which.{Which}
 use Rattle.editing.specs.Put.{setIn}
-use Rattle.editing.specs.Done.{slotsUnder, setTo, set-is, set-sound}
-use Rattle.lookup.specs.Named.{There, hasRecord}
+use Rattle.editing.specs.Done.{setTo, set-is, set-sound}
+use Rattle.lookup.specs.Named.{There, columnsFor, slotsUnder, hasRecord, named-in, has-named}
 use Rattle.correcting.specs.Correct.{bookAt, fits, losing, columnFor, slotFor, entryAt, setAt, setBook, setAnswer}
 use Rattle.correcting.specs.Correct.{setOctets}
-use Rattle.corrected.specs.Named.{named-in, has-named, column-for, slot-for, found-is, Offers, entry-sound, entry-fits, entry-keeps}
+use Rattle.corrected.specs.Named.{count-of, column-for, slot-for, found-is, Offers, entry-sound, entry-fits, entry-keeps}
 use Rattle.corrected.specs.Call.{BookIn, book-may, book-good, room-may, room-good, Corrects, corrects}
 
 -- The book has the named record and a column with the whole tag; the column may hold what is offered, a value of its form to the last octet, or nothing
@@ -51,7 +50,7 @@ module _ (d : List ℕ) (len : ℕ) (which : Which) (t : ℕ) (e : Option (List 
   from-set : (x : BookIn d len) (c : ℕ) → hasRecord (take len d) which ≡ true → columnFor (take len d) which t ≡ At c → SoundEntry (slotFor (take len d) which c) e
       → length (setIn (take len d) which c e) ≤ mostOctets → length (setIn (take len d) which c e) ≤ length d → SetMay d len which t e
   from-set x c h f g i j =
-      let y : There (x .book) which = named-in (take len d) (x .book) (x .reads) (x .sound) which h in
+      let y : There (x .book) which = named-in (take len d) (x .book) (count-of (take len d) (x .book) (x .reads) (x .sound)) which h in
       let z : columnIn t (tagsOf (columnsFor (x .book) which)) ≡ At c = sym (column-for (take len d) (x .book) (x .reads) (x .sound) which t) ∙ f in
       let w = ap length (set-comes d len x which t c e y z) in
       record { on = x; named = y; column = c; found = z; holds = rw (slot-for (take len d) (x .book) (x .reads) (x .sound) which c) at g; short = omega arith; room = omega arith }
@@ -98,7 +97,7 @@ module _ (d : List ℕ) (len : ℕ) (which : Which) (t : ℕ) (e : Option (List 
     unfolding setAt
     set-clear =
         both (book-good d len (x .on))
-        (both (met outOfTurn 0 (has-named (take len d) b (x .on .reads) (x .on .sound) which (x .named)))
+        (both (met outOfTurn 0 (has-named (take len d) b (count-of (take len d) b (x .on .reads) (x .on .sound)) which (x .named)))
         (both (met outOfTurn 0 (ap isFound column-is))
         (ap (λ (f : Found). entryAt d (take len d) which (columnOf f) e) column-is ∙ entry-good)))
 

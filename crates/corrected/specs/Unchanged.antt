@@ -23,18 +23,16 @@ use Rattle.book.specs.Book.{Book, bookOctets, judge}
 use Rattle.book.specs.Whole.{judge-sound}
 use Rattle.lookup.specs.Look.{columnIn, lookIn, lookBy, lookupOf, stretchOf}
 use Rattle.lookup.specs.Laws.{column-in}
-use Rattle.lookup.specs.Tagged.{columnsFor, rowFor}
 use Rattle.lookup.specs.declared.Which.{Which}
 use Rattle.lookup.specs.declared.Which.the-variants.{Header, Number}
 use Rattle.lookup.specs.declared.Looked.the-variants as looked
 use Rattle.editing.specs.Put.{bufferOf}
 use Rattle.editing.specs.Entry.{entryAt}
-use Rattle.editing.specs.Done.{slotsUnder, setTo, set-same}
-use Rattle.lookup.specs.Named.{There}
+use Rattle.editing.specs.Done.{setTo, set-same}
+use Rattle.lookup.specs.Named.{There, columnsFor, slotsUnder, slots-reach, rowFor, row-sound}
 use Rattle.correcting.specs.Correct.{setAt, setBook, setAnswer, setOctets, insertAt, insertBook, insertAnswer}
 use Rattle.correcting.specs.Correct.{insertOctets, deleteAt, deleteBook, deleteAnswer, deleteOctets}
 use Rattle.corrected.specs.Buffer.{buffer-same}
-use Rattle.corrected.specs.Named.{row-sound, slots-reach}
 use Rattle.corrected.specs.Call.{BookIn}
 use Rattle.corrected.specs.Set.{SetMay, set-book, set-clear, set-answered}
 use Rattle.corrected.specs.Handed.{refused, handedBy, handedOf, entryOn, handedIn, handed-is, handed-past}

@@ -15,20 +15,14 @@ use Rattle.book.specs.Book.{Book, Sound, slots-long, headSlots, rowSlots, bookO
 use Rattle.book.specs.Whole.{heads-in, cols-in, body-in, count-in, same-book}
 use Rattle.lookup.specs.Places.{place-in, place-first, rowAt, sound-at}
 use Rattle.entry.specs.Values.{entryOctets}
-use Rattle.lookup.specs.Tagged.{columnsFor, rowFor}
 use Rattle.lookup.specs.declared.Which.{Which}
 use Rattle.lookup.specs.declared.Which.the-variants.{Header, Number}
-use Rattle.lookup.specs.Named.{There}
+use Rattle.lookup.specs.Named.{There, columnsFor, slotsUnder, rowFor}
 use Rattle.editing.specs.Put.{slotsFor, setIn}
 use Rattle.editing.specs.Edit.{edit, edit-length, place-next, one-row, set-row}
 use Rattle.editing.specs.Entry.{entryAt}
 use Rattle.editing.specs.Set.{headed, row-lengthened, headed-length}
 use Rattle.editing.specs.Spot.{set-row-is, set-head-is, set-row-sound, set-head-sound}
-
--- what a record may hold
-abbrev pub slotsUnder : Book → Which → List Slot
-slotsUnder b Header = headSlots (b .heads)
-slotsUnder b (Number k) = rowSlots (b .cols)
 
 -- the book with the entry of column c of a record become e; its tables and every other record are the old ones
 abbrev pub setTo : Which → ℕ → Option (List ℕ) → Book → Book

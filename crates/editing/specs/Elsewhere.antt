@@ -9,13 +9,12 @@ use lib.Seq.{length-take-le, getD-take, getD-drop, getD-append-add, getD-set-sam
 use Rattle.entry.specs.Present.{Row}
 use Rattle.book.specs.Book.{Book}
 use Rattle.lookup.specs.Places.{rowAt}
-use Rattle.lookup.specs.Tagged.{columnsFor, rowFor}
 use Rattle.lookup.specs.declared.Which.{Which}
 use Rattle.lookup.specs.declared.Which.the-variants.{Header, Number}
 use Rattle.editing.specs.Edit.{edit, edited-length, set-row}
 use Rattle.editing.specs.Set.{headed}
 use Rattle.editing.specs.Done.{setTo}
-use Rattle.lookup.specs.Named.{There}
+use Rattle.lookup.specs.Named.{There, columnsFor, rowFor}
 
 -- ---- records replaced, put in or taken out
 

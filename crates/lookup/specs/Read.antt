@@ -21,11 +21,14 @@ use Rattle.book.specs.Book.{Book, Sound, headSlots, rowSlots, tablesOctets, boo
 use Rattle.book.specs.Book.{recordsPlace, countIn, judge}
 use Rattle.book.specs.JudgeCases.{records-place, slots-head, slots-row}
 use Rattle.book.specs.Whole.{body-in}
-use Rattle.book.specs.Read.{rowsIn, bookIn, heads-are, cols-are, rows-count, book-reads}
+use Rattle.book.specs.Read.{rowsIn, bookIn, book-reads}
 use Rattle.book.specs.Front.{firstPlace, firstIn}
 use Rattle.book.specs.FrontCases.{first-place}
 use Rattle.lookup.specs.Places.{walkTo, placeOf, placeIn, place-first, place-in, rowAt, sound-at, record-from}
 use Rattle.lookup.specs.Places.{head-from}
+use Rattle.lookup.specs.Named.{There, columnsFor, rowFor, startFor}
+use Rattle.lookup.specs.declared.Which.{Which}
+use Rattle.lookup.specs.declared.Which.the-variants.{Header, Number}
 
 -- ---- in any octets
 
@@ -91,21 +94,10 @@ module _ (xs : List ℕ) (o : Octets xs) (e : judge xs ≡ clear) where
   good : Sound (bookIn xs) × (xs ≡ bookOctets (bookIn xs))
   good = book-reads xs o e
 
-  -- the cells of record k
-  pub book-cells : (k c : ℕ) → k < countIn xs → c < length (colsIn (drop 12 xs))
-      → CellOf (getD (getD (bookIn xs .rows) k []) c none) xs
-      (getD (cellsIn (formsOf (colsIn (drop 12 xs))) (placeIn xs k) (drop (placeIn xs k) xs) .start) c 0)
-      (getD (cellsIn (formsOf (colsIn (drop 12 xs))) (placeIn xs k) (drop (placeIn xs k) xs) .end) c 0)
-  book-cells k c h g =
-      rw (cols-are xs) at (row-cells xs (bookIn xs) (good .0) (good .1) k c (rw (rows-count xs) h) (rw (cols-are xs) g))
-
-  -- the cells of the header record
-  pub header-cells : (c : ℕ) → c < length (headsIn (drop 12 xs))
-      → CellOf (getD (bookIn xs .head) c none) xs
-      (getD
-      (cellsIn (formsOf (headsIn (drop 12 xs))) (recordsPlace (drop 12 xs)) (drop (recordsPlace (drop 12 xs)) xs)
-      .start) c 0)
-      (getD
-      (cellsIn (formsOf (headsIn (drop 12 xs))) (recordsPlace (drop 12 xs)) (drop (recordsPlace (drop 12 xs)) xs)
-      .end) c 0)
-  header-cells c g = rw (heads-are xs) at (head-cells xs (bookIn xs) (good .0) (good .1) c (rw (heads-are xs) g))
+  -- the cells of the named record
+  pub record-cells : (w : Which) → There (bookIn xs) w → (c : ℕ) → c < length (columnsFor (bookIn xs) w)
+      → CellOf (getD (rowFor (bookIn xs) w) c none) xs
+      (getD (cellsIn (formsOf (columnsFor (bookIn xs) w)) (startFor xs w) (drop (startFor xs w) xs) .start) c 0)
+      (getD (cellsIn (formsOf (columnsFor (bookIn xs) w)) (startFor xs w) (drop (startFor xs w) xs) .end) c 0)
+  record-cells Header h c g = head-cells xs (bookIn xs) (good .0) (good .1) c g
+  record-cells (Number k) h c g = row-cells xs (bookIn xs) (good .0) (good .1) k c h g
