@@ -3,18 +3,20 @@
 use Prim.Native.Nat.{ℕ, zero, suc, _+_, _≤_, _<_}
 use native.Mathlib.Omega.{arith}
 use mathlib.Core.Path.{_≡_, sym, ap, _∙_}
+use mathlib.Core.Bool.{true}
 use mathlib.Core.Option.{none}
 use mathlib.Core.List.{List, [], _∷_, _++_}
 use lib.ListN.{length, getD, drop}
 use lib.Seq.{drop-drop}
+use borrow.Author.Tests.{ltb-true}
 use Rattle.octets.specs.Octets.{Octets}
 use Rattle.octets.specs.Word.{wordOf}
-use Rattle.answers.specs.Numbers.{mostOctets}
 use Rattle.answers.specs.declared.Verdict.the-variants.{Clear as clear}
 use Rattle.table.specs.Table.{Column}
 use Rattle.table.specs.Columns.{formsOf, bitsOf, forms-long}
 use Rattle.entry.specs.Record.{Slot, rowOctets}
 use Rattle.entry.specs.Read.{rowIn}
+use Rattle.entry.specs.Slots.{slotsFrom}
 use Rattle.entry.specs.Cells.{CellOf, cellsIn, row-cell}
 use Rattle.book.specs.Rows.{rowsOctets}
 use Rattle.book.specs.Book.{Book, Sound, headSlots, rowSlots, tablesOctets, bookOctets, headsIn, colsIn}
@@ -24,9 +26,10 @@ use Rattle.book.specs.Whole.{body-in}
 use Rattle.book.specs.Read.{rowsIn, bookIn, book-reads}
 use Rattle.book.specs.Front.{firstPlace, firstIn}
 use Rattle.book.specs.FrontCases.{first-place}
-use Rattle.lookup.specs.Places.{walkTo, placeOf, placeIn, place-first, place-in, rowAt, sound-at, record-from}
+use Rattle.lookup.specs.Places.{walkTo, placeOf, placeIn, place-first, place-in, record-from}
 use Rattle.lookup.specs.Places.{head-from}
-use Rattle.lookup.specs.Named.{There, columnsFor, rowFor, startFor}
+use Rattle.lookup.specs.Named.{There, columnsFor, slotsUnder, rowFor, columns-sound, row-sound, hasRecord}
+use Rattle.lookup.specs.Named.{startFor}
 use Rattle.lookup.specs.declared.Which.{Which}
 use Rattle.lookup.specs.declared.Which.the-variants.{Header, Number}
 
@@ -41,63 +44,58 @@ row-walked (suc n) (suc k) ss at b zs h e =
     row-walked n k ss (at + wordOf 4 zs) b (drop (wordOf 4 zs) zs) (omega arith)
     (sym (drop-drop (wordOf 4 zs) at b) ∙ ap (drop (wordOf 4 zs)) e)
 
--- record k is the one that stands at its place
-pub row-there : (xs : List ℕ) (k : ℕ) → k < countIn xs
-    → rowIn (rowSlots (colsIn (drop 12 xs))) (drop (placeIn xs k) xs) ≡ getD (bookIn xs .rows) k []
+-- the row of the named record is the one that stands at its place
+pub record-there : (xs : List ℕ) (w : Which) → hasRecord xs w ≡ true
+    → rowIn (slotsUnder (bookIn xs) w) (drop (startFor xs w) xs) ≡ rowFor (bookIn xs) w
 unfolding bookIn placeIn firstIn
-row-there xs k h =
-    row-walked (countIn xs) k (rowSlots (colsIn (drop 12 xs))) (firstPlace xs) xs (firstIn xs) h (first-place xs)
-
-pub head-there : (xs : List ℕ)
-    → rowIn (headSlots (headsIn (drop 12 xs))) (drop (recordsPlace (drop 12 xs)) xs) ≡ bookIn xs .head
-unfolding bookIn
-head-there xs = ap (rowIn (headSlots (headsIn (drop 12 xs)))) (records-place xs)
+record-there xs Header h = ap (rowIn (headSlots (headsIn (drop 12 xs)))) (records-place xs)
+record-there xs (Number k) h =
+    row-walked (countIn xs) k (rowSlots (colsIn (drop 12 xs))) (firstPlace xs) xs (firstIn xs)
+    (ltb-true k (countIn xs) h) (first-place xs)
 
 -- ---- in a book that is judged good
 
+-- what stands behind a record
+abbrev pub behindFor : Book → Which → List ℕ
+behindFor b Header = rowsOctets (b .rows)
+behindFor b (Number k) = rowsOctets (drop (suc k) (b .rows))
+
+-- the flags that make a key; in the header record none does
+abbrev flagsFor : Book → Which → List ℕ
+flagsFor b Header = []
+flagsFor b (Number k) = bitsOf (b .cols)
+
+slots-for : (b : Book) (w : Which) → slotsFrom (formsOf (columnsFor b w)) (flagsFor b w) ≡ slotsUnder b w
+slots-for b Header = slots-head (b .heads)
+slots-for b (Number k) = slots-row (b .cols)
+
 module _ (xs : List ℕ) (b : Book) (s : Sound b) (e : xs ≡ bookOctets b) where
-  short : length xs ≤ mostOctets
-  short = rw e (s .short)
-
-  row-cells : (k c : ℕ) → k < length (b .rows) → c < length (b .cols)
-      → CellOf (getD (rowAt b k) c none) xs
-      (getD (cellsIn (formsOf (b .cols)) (placeIn xs k) (drop (placeIn xs k) xs) .start) c 0)
-      (getD (cellsIn (formsOf (b .cols)) (placeIn xs k) (drop (placeIn xs k) xs) .end) c 0)
-  row-cells k c h g =
-      let cs : List Column = b .cols in
-      let l : length (formsOf cs) ≡ length cs = forms-long cs in
-      let t = s .cols .0 in
-      let p : placeIn xs k ≡ placeOf b k = ap (λ (l : List ℕ). placeIn l k) e ∙ place-in b s k (omega arith) in
-      let d : drop (placeIn xs k) xs ≡ rowOctets (rowAt b k) ++ rowsOctets (drop (suc k) (b .rows)) =
-      rw (p, e) (record-from b k h) in
-      row-cell (formsOf cs) (bitsOf cs) xs (placeIn xs k) (rowAt b k) (rowsOctets (drop (suc k) (b .rows))) c
-      (omega arith) short
-      (rw (slots-row cs) (sound-at (rowSlots cs) (b .rows) k (s .rows) h)) d (omega arith)
-
-  head-cells : (c : ℕ) → c < length (b .heads)
-      → CellOf (getD (b .head) c none) xs
-      (getD (cellsIn (formsOf (b .heads)) (recordsPlace (drop 12 xs)) (drop (recordsPlace (drop 12 xs)) xs) .start)
-      c 0)
-      (getD (cellsIn (formsOf (b .heads)) (recordsPlace (drop 12 xs)) (drop (recordsPlace (drop 12 xs)) xs) .end) c 0)
-  head-cells c g =
-      let cs : List Column = b .heads in
-      let l : length (formsOf cs) ≡ length cs = forms-long cs in
-      let t = s .heads .0 in
+  -- the octets of the record stand where it starts
+  pub record-stands : (w : Which) → There b w
+      → drop (startFor xs w) xs ≡ rowOctets (rowFor b w) ++ behindFor b w
+  record-stands Header h =
       let p : recordsPlace (drop 12 xs) ≡ 12 + length (tablesOctets (b .heads) (b .cols)) =
       ap (λ (l : List ℕ). recordsPlace (drop 12 l)) e ∙ ap recordsPlace (body-in b s) ∙ place-first b s in
-      let d : drop (recordsPlace (drop 12 xs)) xs ≡ rowOctets (b .head) ++ rowsOctets (b .rows) =
-      rw (p, e) (head-from b) in
-      row-cell (formsOf cs) [] xs (recordsPlace (drop 12 xs)) (b .head) (rowsOctets (b .rows)) c (omega arith) short
-      (rw (slots-head cs) (s .head)) d (omega arith)
+      rw (p, e) (head-from b)
+  record-stands (Number k) h =
+      let p : placeIn xs k ≡ placeOf b k = ap (λ (l : List ℕ). placeIn l k) e ∙ place-in b s k (omega arith) in
+      rw (p, e) (record-from b k h)
 
-module _ (xs : List ℕ) (o : Octets xs) (e : judge xs ≡ clear) where
-  good : Sound (bookIn xs) × (xs ≡ bookOctets (bookIn xs))
-  good = book-reads xs o e
+  cells-of : (w : Which) → There b w → (c : ℕ) → c < length (columnsFor b w)
+      → CellOf (getD (rowFor b w) c none) xs
+      (getD (cellsIn (formsOf (columnsFor b w)) (startFor xs w) (drop (startFor xs w) xs) .start) c 0)
+      (getD (cellsIn (formsOf (columnsFor b w)) (startFor xs w) (drop (startFor xs w) xs) .end) c 0)
+  cells-of w h c g =
+      let cs : List Column = columnsFor b w in
+      let l : length (formsOf cs) ≡ length cs = forms-long cs in
+      let t = columns-sound b s w .0 in
+      row-cell (formsOf cs) (flagsFor b w) xs (startFor xs w) (rowFor b w) (behindFor b w) c (omega arith)
+      (rw e (s .short)) (rw (slots-for b w) (row-sound b s w h)) (record-stands w h) (omega arith)
 
-  -- the cells of the named record
-  pub record-cells : (w : Which) → There (bookIn xs) w → (c : ℕ) → c < length (columnsFor (bookIn xs) w)
-      → CellOf (getD (rowFor (bookIn xs) w) c none) xs
-      (getD (cellsIn (formsOf (columnsFor (bookIn xs) w)) (startFor xs w) (drop (startFor xs w) xs) .start) c 0)
-      (getD (cellsIn (formsOf (columnsFor (bookIn xs) w)) (startFor xs w) (drop (startFor xs w) xs) .end) c 0)
-  record-cells Header h c g = head-cells xs (bookIn xs) (good .0) (good .1) c g
-  record-cells (Number k) h c g = row-cells xs (bookIn xs) (good .0) (good .1) k c h g
+-- the cells of the named record
+pub record-cells : (xs : List ℕ) → Octets xs → judge xs ≡ clear → (w : Which) → There (bookIn xs) w → (c : ℕ)
+    → c < length (columnsFor (bookIn xs) w)
+    → CellOf (getD (rowFor (bookIn xs) w) c none) xs
+    (getD (cellsIn (formsOf (columnsFor (bookIn xs) w)) (startFor xs w) (drop (startFor xs w) xs) .start) c 0)
+    (getD (cellsIn (formsOf (columnsFor (bookIn xs) w)) (startFor xs w) (drop (startFor xs w) xs) .end) c 0)
+record-cells xs o e w h c g = let k = book-reads xs o e in cells-of xs (bookIn xs) (k .0) (k .1) w h c g

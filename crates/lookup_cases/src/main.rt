@@ -1,6 +1,8 @@
-// Answers each case of a stream by looking a value up: a line for each.
-// A case is a length of four octets and as many octets, of which the first says what follows: 0 a new book; 1 a record and a tag, four octets each, to be
-// looked up in the last book. The record FFFFFFFF is the header record.
+// Answers each case of a stream by looking a value up, or by saying why there is none: a line for each.
+// A case is a length of four octets and as many octets, of which the first says what follows: 0 a new book; 1 a record
+// and a tag, four octets each, to be looked up in the last book; 2 the same, to be told why there is no value. The
+// record FFFFFFFF is the header record.
+use answers::Refusal;
 use lines::decimal;
 use lines::flush;
 use lines::hex;
@@ -11,6 +13,7 @@ use lookup::Looked;
 use lookup::Which;
 use octets::octet;
 use octets::word32;
+use reason::Reason;
 ghost use Prim.Native.Nat.{_≤_};
 ghost use lib.ListN.{length};
 
@@ -21,7 +24,13 @@ fn which(n: u32) -> Which {
     Which::Number(n as usize)
 }
 
-fn answer(book: &[u8], which: Which, tag: u32, out: &mut [u8; 4096], at: usize) -> usize {
+fn refused(r: Refusal, out: &mut [u8; 4096], at: usize) -> usize {
+    let at = words(out, at, b"refused");
+    let at = next_decimal(out, at, r.number as u64);
+    next_decimal(out, at, r.place as u64)
+}
+
+fn value(book: &[u8], which: Which, tag: u32, out: &mut [u8; 4096], at: usize) -> usize {
     match lookup::lookup(book, which, tag) {
         Looked::At(start, end) => {
             let at = words(out, at, b"at ");
@@ -31,22 +40,40 @@ fn answer(book: &[u8], which: Which, tag: u32, out: &mut [u8; 4096], at: usize) 
             hex(out, at, lookup::stretch(book, which, tag))
         }
         Looked::Absent => words(out, at, b"absent"),
-        Looked::Refused(r) => {
-            let number = r.number;
-            let place = r.place;
-            let at = words(out, at, b"refused ");
-            let at = decimal(out, at, number as u64);
-            next_decimal(out, at, place as u64)
-        }
+        Looked::Refused(r) => refused(r, out, at),
     }
 }
 
-fn read_question(book: &[u8], out: &mut [u8; 4096], at: usize) -> usize {
+fn why(book: &[u8], which: Which, tag: u32, out: &mut [u8; 4096], at: usize) -> usize {
+    match reason::why(book, which, tag) {
+        Reason::OtherType(other, row) => {
+            let at = words(out, at, b"other-type");
+            let at = next_decimal(out, at, other as u64);
+            next_decimal(out, at, row as u64)
+        }
+        Reason::NoColumn => words(out, at, b"no-column"),
+        Reason::Listed(octet) => {
+            let at = words(out, at, b"listed");
+            next_decimal(out, at, octet as u64)
+        }
+        Reason::NotListed(octet) => {
+            let at = words(out, at, b"not-listed");
+            next_decimal(out, at, octet as u64)
+        }
+        Reason::Refused(r) => refused(r, out, at),
+    }
+}
+
+fn read_question(what: u32, book: &[u8], out: &mut [u8; 4096], at: usize) -> usize {
     let mut ask = [0u8; 8];
     if io::read_full(0, &mut ask) < 8 {
         return at;
     }
-    answer(book, which(word32(&ask, 0)), word32(&ask, 4), out, at)
+    let record = which(word32(&ask, 0));
+    if what == 2 {
+        return why(book, record, word32(&ask, 4), out, at);
+    }
+    value(book, record, word32(&ask, 4), out, at)
 }
 
 // Reads a book of n octets and answers its length; 0 where it can't be read.
@@ -82,7 +109,7 @@ fn one_case(head: &[u8; 5], book: &mut [u8], len: usize, out: &mut [u8; 4096], a
         let at = words(out, at, b"book");
         return Step { len, at };
     }
-    let at = read_question(&book[0..len], out, at);
+    let at = read_question(octet(head, 4), &book[0..len], out, at);
     Step { len, at }
 }
 
