@@ -61,23 +61,22 @@ numbers-back v x =
 
 -- ---- every value of the form is such a list
 
-record Items (vs : List Item) : Type 0 where
-  pub numbers : List ℕ
-  pub small : Small numbers
-  pub are : vs ≡ asItems numbers
+abbrev numbersOf : List Item → List ℕ
+numbersOf [] = []
+numbersOf (aNumber n ∷ vs) = n ∷ numbersOf vs
+numbersOf (aTruth b ∷ vs) = numbersOf vs
+numbersOf (aNarrow t ∷ vs) = numbersOf vs
+numbersOf (aText t ∷ vs) = numbersOf vs
+numbersOf (aBinary t ∷ vs) = numbersOf vs
 
 no-other : {X : Type 0} (k : Kind) → 1 ≤ kindNumber k → k ≡ number → X
 no-other k h e = let z : kindNumber k ≡ 0 = ap kindNumber e in absurd (omega arith)
 
-items-are : (vs : List Item) → Valids number vs → Items vs
-items-are [] h = record { numbers = []; small = tt; are = refl }
+items-are : (vs : List Item) → Valids number vs → (vs ≡ asItems (numbersOf vs)) × Small (numbersOf vs)
+items-are [] h = (refl, tt)
 items-are (aNumber n ∷ vs) h =
     let r = items-are vs (h .2) in
-    record {
-      numbers = n ∷ r .numbers;
-      small = (h .1, r .small);
-      are = ap (λ (l : List Item). aNumber n ∷ l) (r .are);
-    }
+    (ap (λ (l : List Item). aNumber n ∷ l) (r .0), (h .1, r .1))
 items-are (aTruth b ∷ vs) h = no-other truth (omega arith) (h .0)
 items-are (aNarrow t ∷ vs) h = no-other narrow (omega arith) (h .0)
 items-are (aText t ∷ vs) h = no-other text (omega arith) (h .0)
@@ -86,15 +85,10 @@ items-are (aBinary t ∷ vs) h = no-other binary (omega arith) (h .0)
 pub numbers-are : (v : List ℕ) → IsValue (many number) v → NumbersAre v
 unfolding IsValue
 numbers-are v h =
+    let ns : List ℕ = numbersOf (h .items) in
     let r = items-are (h .items) (h .valid) in
-    let m : count (h .items) ≡ length (r .numbers) = ap count (r .are) ∙ items-many (r .numbers) in
-    record {
-      numbers = r .numbers;
-      small = r .small;
-      few = rw m at (h .few);
-      form = h .form
-          ∙ ap encodeList (r .are);
-    }
+    let m : count (h .items) ≡ length ns = ap count (r .0) ∙ items-many ns in
+    record { numbers = ns; small = r .1; few = rw m at (h .few); form = h .form ∙ ap encodeList (r .0) }
 
 -- ---- one of the numbers
 
