@@ -1,7 +1,6 @@
 /* Windtrellis: offline address books (OAB version 4 full details files), judged, looked up, written and corrected.
- * Every call below is proved to meet its contract (crates/face_reading, face_index, face_correcting,
- * face_writing);
- * docs/CONTRACTS.md says each in a sentence.
+ * Every call below is proved to meet its contract (crates/face_reading, face_reason, face_index, face_correcting,
+ * face_writing); docs/CONTRACTS.md says each in a sentence.
  *
  * Answers. A call takes any octets and any numbers, ends, and answers WT_DONE or the number of its refusal. What there
  * is to say stands in the one small struct that is lent for it, whose first number is the refusal's place, 0 where the
@@ -60,7 +59,7 @@ enum {
     WT_OUT_OF_TURN = 15,   /* out of turn; no such record or column; a stated length over the buffer */
     WT_BREAKS_RULE = 16,   /* the result would break a rule on keys, count or length */
     WT_NO_ROOM = 17,       /* the buffer is too short for the result */
-    WT_BREAKS_FORM = 18,   /* an offered value or record breaks its form */
+    WT_BREAKS_FORM = 18,   /* an offered value or record breaks its form; in wt_why: the value is present */
     WT_WRONG_INDEX = 19    /* an index that isn't the book's, or whose entry for the record lies outside it */
 };
 
@@ -102,6 +101,21 @@ typedef struct {
     uint64_t place, present, start, end;
 } wt_found;
 uint32_t wt_lookup(const uint8_t *book, size_t octets, uint64_t record, uint32_t tag, wt_found *WT_RESTRICT out);
+
+/* Why a record has no value under a whole tag, by the table of that record alone: a reason, and as `shown` the place
+ * that proves it. A tag that no table has, or of a type that isn't known, is no refusal. Refusals: the book's own, then
+ * 15 for a record that isn't there, then 18 where the value is present. */
+enum {
+    WT_OTHER_TYPE = 1, /* no column has the whole tag; `tag` is the first one with its upper half, `shown` is its row */
+    WT_NO_COLUMN = 2,  /* and none has its upper half; `shown` is 0 */
+    WT_LISTED = 3,     /* absent, and the record's truncated properties (68051003) list the whole tag; `shown` is the
+                        * presence octet with the tag's bit */
+    WT_NOT_LISTED = 4  /* absent, and not listed, or there is no such list; `shown` as for WT_LISTED */
+};
+typedef struct {
+    uint64_t place, reason, shown, tag; /* tag is 0 but for WT_OTHER_TYPE */
+} wt_reason;
+uint32_t wt_why(const uint8_t *book, size_t octets, uint64_t record, uint32_t tag, wt_reason *WT_RESTRICT out);
 
 /* The serial of a book whose octets from 12 on are these. It answers the serial itself and refuses nothing. */
 uint32_t wt_serial(const uint8_t *octets, size_t count);

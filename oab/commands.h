@@ -38,6 +38,7 @@ int run_columns(const struct command *c);
 int run_show(const struct command *c);
 int run_get(const struct command *c);
 int run_find(const struct command *c);
+int run_why(const struct command *c);
 int run_index(const struct command *c);
 int run_extract(const struct command *c);
 int run_set(const struct command *c);

@@ -1,5 +1,5 @@
 # Completion of oab's commands, options, records and names of tags for bash.
-_oab_commands="check list columns show get find index set clear insert delete extract apply"
+_oab_commands="check list columns show get find why index set clear insert delete extract apply"
 _oab_names="
     OfflineAddressBookName OfflineAddressBookDistinguishedName OfflineAddressBookSequence
     OfflineAddressBookContainerGuid AddressBookHierarchicalRootDepartment EmailAddress SmtpAddress DisplayName
@@ -31,7 +31,7 @@ _oab() {
     local all="-o -q --help" options
     case $command in
     check | list) options="$all --json" ;;
-    columns) options="$all --json --names" ;;
+    columns | why) options="$all --json --names" ;;
     show) options="$all --json --names --index" ;;
     get) options="$all --json --raw -e --index" ;;
     find) options="$all --json --names -i -t" ;;
@@ -49,9 +49,9 @@ _oab() {
         mapfile -t COMPREPLY < <(compgen -W "$options" -- "$word")
     elif [ -z "$command" ]; then
         mapfile -t COMPREPLY < <(compgen -W "$_oab_commands" -- "$word")
-    elif [ "$at" = 2 ] && [[ $command =~ ^(get|set|clear)$ ]]; then
+    elif [ "$at" = 2 ] && [[ $command =~ ^(get|why|set|clear)$ ]]; then
         mapfile -t COMPREPLY < <(compgen -W "$_oab_names" -- "$word")
-    elif [ "$at" = 1 ] && [[ $command =~ ^(show|get|set|clear|extract)$ ]]; then
+    elif [ "$at" = 1 ] && [[ $command =~ ^(show|get|why|set|clear|extract)$ ]]; then
         mapfile -t COMPREPLY < <(compgen -W "header" -- "$word")
     else
         compopt -o filenames

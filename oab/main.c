@@ -35,6 +35,14 @@ static const struct entry {
         "Every value of an address record that holds the text: record, tag and value, parted by tabs, a line a value\n"
         "or element. Exit status 1 where there is none. The text is spelled as values of text are.",
         run_find, 2, 2, OUT | QUIET | JSON | NAMES | TAG | ALIKE },
+    { "why", "BOOK RECORD TAG",
+        "Why a record has no value under a whole tag, in one line, and in words on standard error:\n"
+        "    other-type TAG PLACE  there is no such column, but one of the same property under another type\n"
+        "    no-column 0           nor that\n"
+        "    truncated PLACE       the value is absent, and the record lists the tag as truncated\n"
+        "    absent PLACE          the value is absent, and the record doesn't\n"
+        "PLACE is that of the column's row, or of the octet with the presence bit. A value that is there: refused, 18.",
+        run_why, 3, 3, OUT | QUIET | JSON | NAMES },
     { "index", "BOOK",
         "The book's index, saved as BOOK.index or where -o says. With it get and show look a record up without\n"
         "judging the others. When the book has changed it is made anew: an index that isn't the book's is refused.",

@@ -14,7 +14,7 @@ import zlib
 sys.dont_write_bytecode = True
 
 import make
-from model import books, indexes, oab
+from model import books, indexes, oab, reasons
 
 
 def check_serial():
@@ -142,6 +142,66 @@ def check_refusals():
     assert oab.judge(bytes(oab.LIMIT)) == ('refused', 3, 0)
 
 
+# A book laid down by hand, with 00 for the four octets of the serial. Header table: 6800001F, 68051003. Address table:
+# 39FE001F (key), 3001001F, 3A08001E, 3A08101F, 3A1C001F, 3A23001F, 8C9E0102, 8CD8000D, 68051003, 3A19001F.
+REASONS_HEX = '''
+20 00 00 00 00 00 00 00 02 00 00 00 6C 00 00 00
+02 00 00 00 1F 00 00 68 00 00 00 00 03 10 05 68 00 00 00 00
+0A 00 00 00 1F 00 FE 39 02 00 00 00 1F 00 01 30 00 00 00 00 1E 00 08 3A 00 00 00 00 1F 10 08 3A 00 00 00 00
+1F 00 1C 3A 00 00 00 00 1F 00 23 3A 00 00 00 00 02 01 9E 8C 00 00 00 00 0D 00 D8 8C 00 00 00 00
+03 10 05 68 00 00 00 00 1F 00 19 3A 00 00 00 00
+0B 00 00 00 40 01 84 1F 00 00 68
+1A 00 00 00 80 80 61 40 62 00 03 84 02 01 9E 8C 84 1E 00 1C 3A 84 1F 00 19 3A
+0A 00 00 00 80 00 63 40 64 00
+'''
+
+
+def check_reasons():
+    """By hand, from document 02, reading 26 and 2.9.2.2.1: rows of the header table from 20 on, those of the address
+    table behind it; presence octets behind a record's size."""
+    small, sample = books.small_book(), books.sample_book()
+    book = books.mended(bytes.fromhex(REASONS_HEX))
+    assert len(book) == 167 and oab.judge(book)[4:] == (2, 120, 131)
+    for asked, record, tag, answer in (
+            (small, 0, 0x3001001F, ('not-listed', 67)), (small, 0, 0x3001001E, ('other-type', 0x3001001F, 40)),
+            (small, 0, 0x800F101E, ('other-type', 0x800F101F, 48)), (small, 0, 0x3A11001F, ('no-column',)),
+            (small, 0, 0x39FE001F, ('refused', 18, 0)), (small, 1, 0x3001001F, ('refused', 15, 0)),
+            (small, None, 0x6800001E, ('other-type', 0x6800001F, 20)), (small, None, 0x3001001F, ('no-column',)),
+            (small, None, 0x6800001F, ('refused', 18, 0)), (small, 0, 0x6800001F, ('no-column',)),
+            (sample, 0, 0x68051003, ('not-listed', 174)), (sample, 1, 0x68051003, ('not-listed', 302)),
+            (sample, 1, 0x39FE001E, ('other-type', 0x39FE001F, 64)), (sample, 0, 0x68010003, ('no-column',)),
+            (sample, None, 0x6804001F, ('other-type', 0x6804001E, 28)), (sample, 2, 0x68051003, ('refused', 15, 0)),
+            (book, None, 0x6800001F, ('listed', 124)), (book, None, 0x68051003, ('refused', 18, 0)),
+            (book, 0, 0x3001001F, ('not-listed', 135)), (book, 0, 0x8C9E0102, ('listed', 135)),
+            (book, 0, 0x3A1C001F, ('not-listed', 135)), (book, 0, 0x3A1C001E, ('other-type', 0x3A1C001F, 72)),
+            (book, 0, 0x8CD8000D, ('not-listed', 135)), (book, 0, 0x3A19001F, ('listed', 136)),
+            (book, 0, 0x3A08001F, ('other-type', 0x3A08001E, 56)), (book, 0, 0x3A08101F, ('not-listed', 135)),
+            (book, 0, 0x3A080005, ('other-type', 0x3A08001E, 56)),
+            (book, 0, 0x68050003, ('other-type', 0x68051003, 104)),
+            (book, 1, 0x8C9E0102, ('not-listed', 161)), (book, 1, 0x3A19001F, ('not-listed', 162)),
+            (book, 1, 0x68051003, ('not-listed', 162)), (book, 2, 0x39FE001F, ('refused', 15, 0)),
+            (book, 2, 0, ('refused', 15, 0)), (book[:-1], 2, 0, ('refused', 8, 157)),
+            (book[:-1], 0, 0x39FE001F, ('refused', 8, 157)), (bytes.fromhex(REASONS_HEX), 2, 0, ('refused', 14, 4))):
+        assert oab.why(asked, record, tag) == answer, (record, hex(tag), answer)
+    for made in reasons.asked():
+        for record, tag, answer in made.questions:
+            assert oab.why(made.book, record, tag) == answer, (made.table, record, hex(tag), answer)
+
+
+def check_reasons_and_lookups():
+    """Present, absent and unknown are what the lookup says."""
+    rng = random.Random(6)
+    for _ in range(150):
+        table = reasons.with_lists(rng, books.some_table(rng, most=4))
+        book = books.octets_of(table)
+        for record in (None, 0, len(table[3]) - 1):
+            for tag in rng.sample(reasons.tags_near(rng, table), 3):
+                kind = oab.why(book, record, tag)
+                found = oab.lookup(book, record, tag)[0]
+                want = {'at': ('refused',), 'absent': ('listed', 'not-listed'), 'refused': ('other-type', 'no-column')}
+                assert kind[0] in want[found]
+
+
 def check_indexes():
     """By hand, from document 02: count, length, serial, 20 and 4, and the places that the books' listings have; an old
     one: 16 and no width, places of three octets."""
@@ -230,6 +290,7 @@ def check_length_limit():
 
 if __name__ == '__main__':
     for check in (check_serial, check_document_cases, check_numbers, check_utf8, check_books, check_refusals,
-                  check_indexes, check_old_limit, check_writing, check_count_limit, check_length_limit):
+                  check_reasons, check_reasons_and_lookups, check_indexes, check_old_limit, check_writing,
+                  check_count_limit, check_length_limit):
         check()
     print('the model holds')

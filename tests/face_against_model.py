@@ -2,8 +2,9 @@
 
 Run from the top: python3 tests/face_against_model.py [SEED]. The library is that of `make shared`; where the
 environment says LIBRARY='a.o b.o ..', it is one linked of these objects, as for a machine that the kit doesn't compile
-for. The calls are those of make.py's streams made anew with other seeds: judging and columns, lookups, indexes,
-writings, corrections; then serials of any octets. Each is made on the model and on the library, from the same octets.
+for. The calls are those of make.py's streams made anew with other seeds: judging and columns, lookups, reasons,
+indexes, writings, corrections; then serials of any octets. Each is made on the model and on the library, from the same
+octets.
 Writings also get another buffer between the calls: larger, smaller, elsewhere. Ends with "N calls, 0 differ".
 """
 
@@ -18,7 +19,7 @@ from pathlib import Path
 sys.dont_write_bytecode = True
 
 import make
-from model import books, indexes, oab
+from model import books, indexes, oab, reasons
 
 TOP = Path(__file__).resolve().parent.parent
 SHIM = 0xA5A5A5A5A5A5A5A5       # what the numbers of a struct are before a call
@@ -69,6 +70,10 @@ class Found(Numbers):
     _fields_ = fields('place', 'present', 'start', 'end')
 
 
+class Reason(Numbers):
+    _fields_ = fields('place', 'reason', 'shown', 'tag')
+
+
 class Length(Numbers):
     _fields_ = fields('place', 'length')
 
@@ -99,6 +104,15 @@ def found(out, want):
     if want[0] == 'at':
         return 0, [0, 1, want[1], want[2]]
     return (0, [0, 0, 0, 0]) if want[0] == 'absent' else (want[1], refused(out, want[2]))
+
+
+def reasoned(out, want):
+    """A reason in numbers."""
+    if want[0] == 'refused':
+        return want[1], refused(out, want[2])
+    if want[0] == 'other-type':
+        return 0, [0, 1, want[2], want[1]]
+    return 0, [0, 2, 0, 0] if want[0] == 'no-column' else [0, 3 if want[0] == 'listed' else 4, want[1], 0]
 
 
 def compare(what, want, got):
@@ -152,6 +166,18 @@ class Face:
         out = Found()
         answer = self.lib.wt_lookup(*octets(book), named(record), ctypes.c_uint32(tag), ctypes.byref(out))
         compare(('lookup', record, tag), found(out, want), (answer, out.list()))
+
+    def why(self, book, record, tag):
+        want = oab.why(book, record, tag)
+        out = Reason()
+        answer = self.lib.wt_why(*octets(book), named(record), ctypes.c_uint32(tag), ctypes.byref(out))
+        compare(('why', record, tag), reasoned(out, want), (answer, out.list()))
+        return want
+
+    def ask(self, book, record, tag):
+        """Both ways, as make.py's stream does."""
+        self.lookup(book, record, tag)
+        self.why(book, record, tag)
 
     def serial(self, data):
         compare(('serial', len(data)), oab.serial(data), self.lib.wt_serial(*octets(data)))
@@ -326,9 +352,32 @@ def read(face, rng):
         tags = [tag for tag, _ in table[0] + table[1]] + [0]
         for record in (None, 0, len(table[3]) - 1, len(table[3]), HEADER - 1):
             for tag in rng.sample(tags, min(3, len(tags))) + [rng.choice(tags) ^ 0x10000]:
-                face.lookup(book, record, tag)
+                face.ask(book, record, tag)
     for length in range(0, 80):
         face.judge(books.small_book()[:length])
+
+
+def give_reasons(face, rng):
+    """make.py's questions; records by numbers of 64 bits, tags of all sorts, octets that are no book."""
+    make.lookup_reasons(face, rng)
+    make.lookup_damaged(face, rng)
+    for table in (books.DESK_TABLE, books.MANAGER_TABLE, *make.wide_tables(rng, 1)):
+        make.lookup_all(face, rng, table, 0.5)
+    for _ in range(150):
+        table = reasons.with_lists(rng, books.some_table(rng, records=rng.choice((1, 2, 3, 4))))
+        book = books.octets_of(table)
+        if rng.random() < 0.3:
+            book = books.random_damage(book, rng)
+        tags = reasons.tags_near(rng, table) + [rng.getrandbits(32)]
+        for record in (None, 0, len(table[3]) - 1, len(table[3]), 1 << 32, (1 << 32) - 1, 1 << 63, HEADER - 1):
+            for tag in rng.sample(tags, 3):
+                face.why(book, record, tag)
+    for length in (0, 1, 11, 12, 100):
+        for record in (None, 0, 1):
+            face.why(rng.randbytes(length), record, rng.getrandbits(32))
+    small = books.small_book()
+    for book in books.truncations(small) + [small + bytes(oab.LIMIT + 1 - len(small))]:
+        face.why(book, 0, 0x3001001F)
 
 
 def passed_over(stream):
@@ -355,6 +404,7 @@ def main():
     face = Face(library)
     face.version()
     read(face, rng)
+    give_reasons(face, rng)
     read_indexed(FaceIndex(library), rng)
     stream = FaceWriting(library)
     make.writing_begins(stream, rng)

@@ -1,6 +1,6 @@
-"""The calls for C programs at the limits of length: a book of 268,435,456 octets is judged, looked up in, written and
-corrected, and with one octet more each call has its published refusal and changes nothing. An old index is read beside
-16,777,216 octets and not beside one more.
+"""The calls for C programs at the limits of length: a book of 268,435,456 octets is judged, looked up in, asked why
+there is no value, written and corrected, and with one octet more each call has its published refusal and changes
+nothing. An old index is read beside 16,777,216 octets and not beside one more.
 
 Run from the top: python3 tests/face_at_limit.py. The library is that of face_against_model.py. What is expected is by
 hand (tests/model/large.py), since the model would take minutes. Ends with "N calls, 0 differ".
@@ -12,7 +12,7 @@ import sys
 sys.dont_write_bytecode = True
 
 import face_against_model as face
-from face_against_model import Found, Judged, Length, Start, Writing, compare, octets, refused, words
+from face_against_model import Found, Judged, Length, Reason, Start, Writing, compare, octets, refused, words
 from model import large, oab
 
 SMTP, NAME = (tag for tag, _ in large.COLUMNS)
@@ -47,6 +47,15 @@ def looked(lib, book, index, k, start, refusal):
     compare(('indexed', len(book), k), (number, want), (answer, found.list()))
 
 
+def reasoned(lib, book, k, refusal):
+    """The address under another type, in row 0 of the address table; under none; and where it is."""
+    for tag, number, want in ((SMTP ^ 1, 0, [0, 1, 24, SMTP]), (0, 0, [0, 2, 0, 0]), (SMTP, 18, [0, 0, 0, 0])):
+        out = Reason()
+        answer = lib.wt_why(*lent(book), u64(k), ctypes.c_uint32(tag), ctypes.byref(out))
+        want = (refusal[0], refused(out, refusal[1])) if refusal else (number, want)
+        compare(('why', len(book), k, tag), want, (answer, out.list()))
+
+
 def read(lib):
     for size in (OLD_LIMIT, OLD_LIMIT + 1, oab.LIMIT, oab.LIMIT + 1):
         book, places = large.book(size)
@@ -62,6 +71,7 @@ def read(lib):
             looked(lib, book, large.index(book, places), k, places[k], refusal)
             old = refusal or ((19, 0) if size > OLD_LIMIT else None)
             looked(lib, book, large.old_index(book, places), k, places[k], old)
+        reasoned(lib, book, last, refusal)
 
 
 def correct(lib, call, book, length, words_of, refusal, want):

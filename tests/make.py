@@ -1,7 +1,7 @@
 """Writes the test streams and the examples. Run from the top: python3 tests/make.py
 
 What: for each test program a file `stdin` (the cases) and a file `stdout` (what the
-program must print), and two example books with their listings. Why here: all expected
+program must print), and the example books with their listings. Why here: all expected
 output is worked out by the model in tests/model, never by the code under test.
 
 A stream is a sequence of cases: a 4-octet little-endian length L (at most 65,535), then L
@@ -19,7 +19,7 @@ from pathlib import Path
 
 sys.dont_write_bytecode = True
 
-from model import books, indexes, oab
+from model import books, indexes, oab, reasons
 
 TOP = Path(__file__).resolve().parent.parent
 HEADER_RECORD = 0xFFFFFFFF      # stands for the header record where a record is named
@@ -477,74 +477,137 @@ def make_judge():
 
 # ---------------------------------------------------------------- lookup_cases
 
-def make_lookup():
-    """Payload: 0, a book ("book"), or 1, 4 record (FFFFFFFF: the header record), 4 tag, asked
-    of the last book: "at START END HEX", "absent" or "refused N P"."""
-    stream = Stream('lookup_cases')
-    rng = random.Random(303)
-    answers = Counter()
+class LookupStream(Stream):
+    """Values, and why there are none, asked of the model as the cases are added.
 
-    def new(book):
-        stream.add(b'\0' + book, 'book')
-        return book
+    Payload, first octet (record FFFFFFFF: the header record):
+      0 a book                                   "book"
+      1 4 record, 4 tag: the value               "at START END HEX", "absent" or "refused N P"
+      2 4 record, 4 tag: why there is none       "other-type TAG PLACE", "no-column", "listed PLACE",
+                                                 "not-listed PLACE" or "refused N P"
+    """
 
-    def ask(book, record, tag):
-        answer = oab.lookup(book, None if record == HEADER_RECORD else record, tag)
+    def __init__(self):
+        super().__init__('lookup_cases')
+        self.book = None
+        self.answers = Counter()
+
+    def lend(self, book):
+        if book != self.book:
+            self.book = book
+            self.add(b'\0' + book, 'book')
+
+    def count(self, call, answer):
+        self.answers[f'{call} {answer[0]}' + (f' {answer[1]}' if answer[0] == 'refused' else '')] += 1
+
+    def question(self, call, record, tag, line):
+        self.add(call + oab.four(HEADER_RECORD if record is None else record) + oab.four(tag), line)
+
+    def look(self, book, record, tag):
+        self.lend(book)
+        answer = oab.lookup(book, record, tag)
         line = ' '.join(str(word) for word in answer)
         if answer[0] == 'at':
             line += ' ' + hex_of(book[answer[1]:answer[2]])
-        answers[answer[0] if answer[0] != 'refused' else f'refused {answer[1]}'] += 1
-        stream.add(b'\x01' + oab.four(record) + oab.four(tag), line)
+        self.count('look', answer)
+        self.question(b'\1', record, tag, line)
+        return answer
 
-    def ask_all(table, book, share):
-        header, address, _, rows = table
-        tags = [tag for tag, _ in header + address]
-        others = [0, 0x0000001F, 0xFFFFFFFF, 0x39FE0000, 0x6800001E]
-        others += [tag & 0xFFFF0000 | rng.choice(oab.TYPES) for tag in tags[:12]] + [tag ^ 0x10000 for tag in tags[:4]]
-        for record in [HEADER_RECORD] + list(range(len(rows))):
-            own = header if record == HEADER_RECORD else address
-            for tag, _ in own:
-                if rng.random() < share:
-                    ask(book, record, tag)
-            for tag in rng.sample(others, min(4, len(others))) + rng.sample(tags, min(3, len(tags))):
-                ask(book, record, tag)         # also tags of the other table
-        for record in (len(rows), len(rows) + 1, 65_535, 0x7FFFFFFF, 0xFFFFFFFE):
-            ask(book, record, rng.choice(tags + [0]))
+    def why(self, book, record, tag):
+        self.lend(book)
+        answer = oab.why(book, record, tag)
+        self.count('why', answer)
+        self.question(b'\2', record, tag, ' '.join(str(word) for word in answer))
+        return answer
 
-    for book in (books.small_book(), books.sample_book()):
-        ask_all(oab.table_of(book), new(book), 1.0)
-    ask_all(books.MANAGER_TABLE, new(books.octets_of(books.MANAGER_TABLE)), 1.0)
-    for tag in (books.MANAGER, 0x8005001E, 0x8005001F):
-        for record in (HEADER_RECORD, 0, 1, 2):
-            ask(books.octets_of(books.MANAGER_TABLE), record, tag)
-    for _ in range(170):
-        table = books.some_table(rng, records=rng.choice((1, 2, 3, 4)))
-        ask_all(table, new(books.octets_of(table)), 0.8)
-    for table in wide_tables(rng, 2):
-        ask_all(table, new(books.octets_of(table)), 0.3)
-    binary = oab.encode_number(1000) + rng.randbytes(1000)
-    table = ([], [(0x30010102, 2), (0x3001001F, 0), (0x68051003, 0)], [], [[binary, 'ö'.encode() * 200 + b'\0', None]] * 2)
-    ask_all(table, new(books.octets_of(table)), 1.0)
-    for fault in books.FAULTS:                 # damaged books: their refusal comes before 15
+    def ask(self, book, record, tag):
+        """Both ways."""
+        self.look(book, record, tag)
+        self.why(book, record, tag)
+
+
+def lookup_all(stream, rng, table, share):
+    """A share of the columns of every record, tags that nobody has, tags of the other table; records that aren't."""
+    header, address, _, rows = table
+    book = books.octets_of(table)
+    tags = [tag for tag, _ in header + address]
+    others = [0, 0x0000001F, 0xFFFFFFFF, 0x39FE0000, 0x6800001E]
+    others += [tag & 0xFFFF0000 | rng.choice(oab.TYPES) for tag in tags[:12]] + [tag ^ 0x10000 for tag in tags[:4]]
+    for record in [None] + list(range(len(rows))):
+        for tag, _ in header if record is None else address:
+            if rng.random() < share:
+                stream.ask(book, record, tag)
+        for tag in rng.sample(others, min(4, len(others))) + rng.sample(tags, min(3, len(tags))):
+            stream.ask(book, record, tag)
+    for record in (len(rows), len(rows) + 1, 65_535, 0x7FFFFFFF, 0xFFFFFFFE):
+        stream.ask(book, record, rng.choice(tags + [0]))
+
+
+def lookup_damaged(stream, rng):
+    """Damaged books: their refusal comes before 15 and 18."""
+    for fault in books.FAULTS:
         for _ in range(6):
             table = books.some_table(rng, most=4)
             made = books.faulty(table, rng, fault)
             if made is None:
                 continue
-            book = new(made[0])
             tags = [tag for tag, _ in table[0] + table[1]] + [0]
-            for record in (HEADER_RECORD, 0, 7):
-                ask(book, record, rng.choice(tags))
+            for record in (None, 0, 7):
+                stream.ask(made[0], record, rng.choice(tags))
     for book, _ in list(books.proxy_books())[::7]:                         # request 109: the element at fault
-        new(book)
-        for record in (HEADER_RECORD, 0, 1):
-            ask(book, record, oab.word(book, 24))
+        for record in (None, 0, 1):
+            stream.ask(book, record, oab.word(book, 24))
     small = books.small_book()
     for book in rng.sample(list(books.octet_changes(small, rng, 3)), 60) + rng.sample(books.truncations(small), 20):
-        new(book)
-        ask(book, 0, 0x39FE001F)
-        ask(book, HEADER_RECORD, 0x6800001F)
-    print('lookup_cases:', dict(sorted(answers.items())), file=sys.stderr)
+        stream.ask(book, 0, 0x39FE001F)
+        stream.ask(book, None, 0x6800001F)
+
+
+def lookup_reasons(stream, rng):
+    """Request 105: every reason on purpose; truncated properties at random; a list at fault before 15 and 18."""
+    for made in reasons.asked():
+        for record, tag, answer in made.questions:
+            assert stream.why(made.book, record, tag) == answer
+    for _ in range(100):
+        table = reasons.with_lists(rng, books.some_table(rng, records=rng.choice((1, 2, 3)), most=4))
+        tags = reasons.tags_near(rng, table)
+        for record in [None] + list(range(len(table[3]))):
+            for tag in rng.sample(tags, min(8, len(tags))):
+                stream.why(books.octets_of(table), record, tag)
+    for fault in books.FAULTS:
+        for _ in range(3):
+            table = reasons.with_lists(rng, books.some_table(rng, most=4))
+            made = books.faulty(table, rng, fault)
+            if made is not None:
+                for record in (None, 0, len(table[3]), 0xFFFFFFFE):
+                    tag = rng.choice(reasons.tags_near(rng, table))
+                    assert stream.why(made[0], record, tag) == ('refused',) + made[1]
+    for value, inside in books.faulty_lists(0x1003):
+        book = books.octets_of(([], [(reasons.PHONE, 0), reasons.TRUNCATED], [], [[None, value]]))
+        for record, tag in ((0, reasons.PHONE), (0, oab.TRUNCATED), (1, reasons.PHONE), (None, 0)):
+            assert stream.why(book, record, tag) == ('refused', 11, 49 + inside)
+
+
+def make_lookup():
+    stream = LookupStream()
+    rng = random.Random(303)
+    for book in (books.small_book(), books.sample_book()):
+        lookup_all(stream, rng, oab.table_of(book), 1.0)
+    for table in (books.MANAGER_TABLE, books.DESK_TABLE):
+        lookup_all(stream, rng, table, 1.0)
+    for tag in (books.MANAGER, 0x8005001E, 0x8005001F):
+        for record in (None, 0, 1, 2):
+            stream.ask(books.octets_of(books.MANAGER_TABLE), record, tag)
+    for _ in range(170):
+        lookup_all(stream, rng, books.some_table(rng, records=rng.choice((1, 2, 3, 4))), 0.8)
+    for table in wide_tables(rng, 2):
+        lookup_all(stream, rng, table, 0.3)
+    binary, text = oab.encode_number(1000) + rng.randbytes(1000), 'ö'.encode() * 200 + b'\0'
+    columns = [(0x30010102, 2), (0x3001001F, 0), (0x68051003, 0)]
+    lookup_all(stream, rng, ([], columns, [], [[binary, text, None]] * 2), 1.0)
+    lookup_damaged(stream, rng)
+    lookup_reasons(stream, rng)
+    print('lookup_cases:', dict(sorted(stream.answers.items())), file=sys.stderr)
     stream.save(1_000_000, 1_000_000)
 
 
@@ -1453,7 +1516,8 @@ def make_examples():
     folder = TOP / 'examples'
     folder.mkdir(parents=True, exist_ok=True)
     for name, book in (('small', books.small_book()), ('sample', books.sample_book()),
-                       ('manager', books.octets_of(books.MANAGER_TABLE))):
+                       ('manager', books.octets_of(books.MANAGER_TABLE)),
+                       ('desk', books.octets_of(books.DESK_TABLE))):
         (folder / f'{name}.book').write_bytes(book)
         (folder / f'{name}.listing').write_text(oab.listing(book))
 

@@ -94,6 +94,7 @@ def big(folder):
         good = f'{path}: good, {size} octets, {len(places)} records\n'.encode()
         differs(('check', size), (0, good), run('check', path)[:2])
         through_index(path, octets, places)
+        differs(('why', size), (0, b'other-type 39FE001F 24\n'), run('why', path, len(places) - 1, '39FE001E')[:2])
         if size != 16_777_217:
             corrected(path, octets, places)
             listed = run('list', path)
@@ -113,6 +114,7 @@ def too_long(path, octets, places):
     saved = path.with_suffix('.saved')
     saved.write_bytes(large.index(octets, places))
     for words in (('check', path), ('list', path), ('get', path, 0, '39FE001F'), ('set', path, 0, '39FE001F', 'a'),
+                  ('why', path, 0, '39FE001E'),
                   ('get', '--index', saved, path, 0, '39FE001F'), ('index', '-o', path.with_suffix('.new'), path)):
         got = run(*words)
         differs(('an octet too many', words), (1, b'', True), (*got[:2], got[2].startswith(refusal(path, 1, 0))))

@@ -107,7 +107,9 @@ PROGRAM = '''#include <windtrellis.h>
 int main(void)
 {
     wt_judged j;
-    printf("%u %u", wt_version() == WT_VERSION, wt_judge((const uint8_t *)"", 0, &j));
+    wt_reason r;
+    printf("%u %u ", wt_version() == WT_VERSION, wt_judge((const uint8_t *)"", 0, &j));
+    printf("%u", wt_why((const uint8_t *)"", 0, WT_HEADER, 0, &r));
     return 0;
 }
 '''
@@ -133,7 +135,7 @@ def installed(folder):
         env = {**os.environ, 'PKG_CONFIG_PATH': f'{folder}/p/lib/pkgconfig', 'PKG_CONFIG_SYSROOT_DIR': str(folder)}
         flags = sh('pkg-config', '--cflags', '--libs', 'windtrellis', env=env)[1].decode().split()
     differs('a program', (0, b'', b''), sh('cc', '-Wall', '-Werror', '-o', program, source, *flags))
-    differs('and it runs', (0, b'1 2', b''), sh(program))
+    differs('and it runs', (0, b'1 2 2', b''), sh(program))
 
 
 COMPLETE = '''compopt() { :; }
@@ -152,6 +154,8 @@ def completion(folder):
         return
     for words, want in (('oab se', 'set '), ('oab get b 0 DisplayN', 'DisplayName '), ('oab get b he', 'header '),
                         ('oab set -o out b 0 Smtp', 'SmtpAddress '), ('oab columns --', '--help --json --names '),
+                        ('oab wh', 'why '), ('oab why b he', 'header '), ('oab why -q b 0 Surn', 'Surname '),
+                        ('oab why --j', '--json '),
                         ('oab check examples/small.b', 'examples/small.book '), ('oab set --n', ' ')):
         differs(words, (0, want.encode(), b''), sh('bash', '-c', COMPLETE, 'bash', *words.split(), cwd=TOP))
 

@@ -28,6 +28,16 @@ MANAGER_TABLE = (
      [b'eve@house.example\0', b'/o=house/cn=J\xFCrg\0', None]],
 )
 
+# A help desk's book (request 105): a mobile telephone under a type that nobody asks for, a photo that was left out and
+# is listed as truncated, an address that just isn't there.
+DESK_TABLE = (
+    [(0x6800001F, 0)],
+    [(0x3003001E, 2), (0x39FE001F, 0), (0x3001001F, 1), (0x3A1C001E, 0), (0x8C9E0102, 0), (0x68051003, 0)],
+    [b'House\0'],
+    [[b'/o=house/cn=ann\0', b'ann@house.example\0', b'Ann\0', b'555 0100\0', None, b'\x01\x84\x02\x01\x9E\x8C'],
+     [b'/o=house/cn=eve\0', None, b'Eve\0', None, None, None]],
+)
+
 # Document 01, "A whole small book", with 00 for the four octets of the serial.
 SMALL_HEX = '''
 20 00 00 00 00 00 00 00 01 00 00 00

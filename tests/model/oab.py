@@ -1,10 +1,10 @@
 """A plain model of version 4 books (uncompressed full details files).
 
-What: judging a book, looking values up, listing, writing and correcting one, all on
-byte strings. Why: the expected output of the tests comes from here and never from the
-code under test. The model is written from document 01 (the scope), document 000
-(sections 2.9 to 2.9.6.9) and docs/DECISIONS.md, as straight down from their words as
-possible; speed plays no part. "Decision N" below is its number there.
+What: judging a book, looking values up or saying why there is none, listing, writing
+and correcting one, all on byte strings. Why: the expected output of the tests comes from
+here and never from the code under test. The model is written from document 01 (the scope),
+document 000 (sections 2.9 to 2.9.6.9) and docs/DECISIONS.md, as straight down from their
+words as possible; speed plays no part. "Decision N" below is its number there.
 """
 
 LIMIT = 268_435_456       # most octets of a book (request 111)
@@ -334,14 +334,18 @@ def judge(book):
             got.header_record.place, got.records[0].place)
 
 
-def find(got, record, tag):
-    """The record and the column that are named (None: the header record), else 15."""
+def record_named(got, record):
+    """The table and the record that are named (None: the header record), else 15."""
     if record is None:
-        columns, where = got.header_columns, got.header_record
-    elif record < len(got.records):
-        columns, where = got.address_columns, got.records[record]
-    else:
-        raise Refusal(15, 0)
+        return got.header_columns, got.header_record
+    if record < len(got.records):
+        return got.address_columns, got.records[record]
+    raise Refusal(15, 0)
+
+
+def find(got, record, tag):
+    """The record and the column that are named, else 15."""
+    columns, where = record_named(got, record)
     tags = [column_tag for column_tag, _ in columns]
     if tag not in tags:
         raise Refusal(15, 0)
@@ -355,6 +359,51 @@ def lookup(book, record, tag):
         return refusal.answer()
     stretch = where.stretches[column]
     return ('absent',) if stretch is None else ('at',) + stretch
+
+
+# ---------------------------------------------------------------- why there is no value (request 105)
+
+TRUNCATED = 0x68051003    # the truncated properties (2.9.2.2.1): a list of whole tags
+
+
+def numbers_in(value):
+    """The numbers of a list of type 1003, from its encoding."""
+    count, at = number_at(value)
+    found = []
+    for _ in range(count):
+        number, width = number_at(value[at:])
+        found.append(number)
+        at += width
+    return found
+
+
+def truncated(book, columns, where):
+    """The tags that the record itself lists; none where that column is missing or absent."""
+    for (tag, _), stretch in zip(columns, where.stretches):
+        if tag == TRUNCATED and stretch is not None:
+            return numbers_in(book[stretch[0]:stretch[1]])
+    return []
+
+
+def why(book, record, tag):
+    """Why the record has no value under the whole tag: ('other-type', tag, place of its row), ('no-column',),
+    ('listed', place of the presence octet), ('not-listed', that place) or a refusal."""
+    try:
+        got = read_book(book)
+        columns, where = record_named(got, record)
+        tags = [column_tag for column_tag, _ in columns]
+        if tag in tags and where.stretches[tags.index(tag)] is not None:
+            raise Refusal(18, 0)
+    except Refusal as refusal:
+        return refusal.answer()
+    if tag in tags:
+        listed = tag in truncated(book, columns, where)
+        return ('listed' if listed else 'not-listed', where.place + 4 + tags.index(tag) // 8)
+    first_row = 20 if record is None else 20 + 8 * len(got.header_columns) + 4
+    for i, other in enumerate(tags):
+        if other >> 16 == tag >> 16:
+            return ('other-type', other, first_row + 8 * i)
+    return ('no-column',)
 
 
 # ------------------------------------------- a saved index (requests 103 and 111, decisions 41 to 47, 51 to 53)
