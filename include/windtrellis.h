@@ -35,7 +35,7 @@ extern "C" {
 
 /* 10,000 for each version, 100 for each change that adds calls, 1 for each other one. wt_version answers that of the
  * library which the program runs with. */
-#define WT_VERSION 10101u
+#define WT_VERSION 10200u
 uint32_t wt_version(void);
 
 /* Answers. */

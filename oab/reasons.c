@@ -54,7 +54,7 @@ static void say_reason(const struct command *c, const struct question *q, const 
         note(c->words[0], "there is no column %s in the %s table, nor one of another type", tag, table);
         break;
     case WT_LISTED:
-        note(c->words[0], "%s has no value of %s: it was left out as truncated (presence octet at %" PRIu64 ")",
+        note(c->words[0], "%s has no value of %s and lists it as truncated (presence octet at %" PRIu64 ")",
             record, tag, r->shown);
         break;
     default:

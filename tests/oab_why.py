@@ -46,7 +46,7 @@ def said(book, record, tag, answer, name=hex_tag):
     who = 'the header record' if record is None else f'record {record}'
     no_column, no_value = f'there is no column {name(tag)} in the {table} table', f'{who} has no value of {name(tag)}'
     words = {'no-column': f'{no_column}, nor one of another type',
-             'listed': f'{no_value}: it was left out as truncated (presence octet at {place_of(answer)})',
+             'listed': f'{no_value} and lists it as truncated (presence octet at {place_of(answer)})',
              'not-listed': f'{no_value} and doesn\'t list it as truncated (presence octet at {place_of(answer)})'}
     if answer[0] == 'other-type':
         words['other-type'] = f'{no_column}, but {name(answer[1])}, of another type (row at {place_of(answer)})'

@@ -1,6 +1,6 @@
--- Beside the lookup of the same record and tag, for any octets: where that finds a value the answer is 18, where it says
--- absent the reply is listed or not listed, and its refusals are answered too, save the 15 for an unknown tag, where the
--- reply is another type or no column.
+-- Beside the lookup of the same record and tag, for any octets: where that finds a value the answer is 18, where it
+-- says absent the reply is listed or not listed, and its refusals are answered too, save the 15 for an unknown tag,
+-- where the reply is another type or no column.
 use Prim.Native.Nat.{ℕ}
 use mathlib.Core.Path.{_≡_, refl, sym, ap, _∙_}
 use mathlib.Core.Bool.{Bool, true, false, not}

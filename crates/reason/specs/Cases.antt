@@ -206,7 +206,8 @@ pub ruleset absences = (absent-not, absent-listed, absent-unlisted)
 
 -- ---- why_in
 
-module _ (b tags forms : List ℕ) (n at rows t : ℕ) (f : Found) (q : f ≡ columnIn t (take (n - 0) tags)) (r : Reason) where
+module _ (b tags forms : List ℕ) (n at rows t : ℕ) (f : Found) (q : f ≡ columnIn t (take (n - 0) tags))
+    (r : Reason) where
   found-is : columnIn t (take n tags) ≡ f
   found-is = rw (sub-zero n) at (sym q)
 

@@ -111,6 +111,11 @@ truncated-form : formOf (truncated % 65536) ≡ many number
 unfolding formIn numberOf formAt formOf
 truncated-form = refl
 
+-- where the truncated column is missing or absent nothing is listed
+pub nothing-listed : (b : Book) (w : Which) (t : ℕ) → valueFor b w truncated ≡ none → isListed b w t ≡ false
+unfolding isListed
+nothing-listed b w t e = rw e
+
 -- ---- in a sound book
 
 module _ (b : Book) (s : Sound b) (w : Which) (h : There b w) (at t : ℕ) where

@@ -39,7 +39,8 @@ row-at (suc n) (suc i) xs h =
     let z : 8 + 8 * i ≡ 8 * suc i = omega arith in
     sym (rw z at (ap (wordOf 4) (drop-drop (8 * i) 8 xs))) ∙ row-at n i (drop 8 xs) (omega arith)
 
-table-row : (i : ℕ) (xs : List ℕ) → i < length (tableOf xs) → wordOf 4 (drop (4 + 8 * i) xs) ≡ getD (tagsOf (tableOf xs)) i 0
+table-row : (i : ℕ) (xs : List ℕ) → i < length (tableOf xs)
+    → wordOf 4 (drop (4 + 8 * i) xs) ≡ getD (tagsOf (tableOf xs)) i 0
 unfolding tableOf
 table-row i xs h =
     ap (wordOf 4) (sym (drop-drop (8 * i) 4 xs))

@@ -1,5 +1,5 @@
 -- Why a record has no value under a tag (request 105, reading 26), said of the table that stands in a book: the columns
--- of the named record's table, and its row. `whyAt` has the refusals in the published order, `replyIn` the four replies.
+-- of the named record's table, and its row. `whyAt` has the refusals in the published order, `replyIn` the replies.
 use Prim.Native.Nat.{ℕ, zero, suc, _+_, _*_, _/_}
 use mathlib.Core.Bool.{Bool, not, cond}
 use mathlib.Core.Option.{Option, none, some}
@@ -25,6 +25,15 @@ use Rattle.lookup.specs.declared.Which.the-variants as which
 use Rattle.reason.specs.declared.Reason.{Reason}
 use Rattle.reason.specs.declared.Reason.the-variants as reason
 
+-- ---- the upper half of a tag: the property; the lower half is its type (2.9.4)
+
+abbrev pub upper : ℕ → ℕ
+upper t = t / 65536
+
+abbrev pub uppersOf : List ℕ → List ℕ
+uppersOf [] = []
+uppersOf (t ∷ ts) = upper t ∷ uppersOf ts
+
 -- ---- the value under a whole tag
 
 -- what a row has in the column that was found; nothing where none was
@@ -37,15 +46,8 @@ valueFor b w t = entryIn (columnIn t (tagsUnder b w)) (rowFor b w)
 
 -- ---- a column of the same upper half under another type
 
-abbrev pub upper : ℕ → ℕ
-upper t = t / 65536
-
-abbrev pub uppersOf : List ℕ → List ℕ
-uppersOf [] = []
-uppersOf (t ∷ ts) = upper t ∷ uppersOf ts
-
--- where the rows of the named record's table begin (2.9.2): behind the header, the metadata's size and the count; for the
--- address table behind the header table and its own count
+-- where the rows of the named record's table begin (2.9.2): behind the header, the metadata's size and the count; those
+-- of the address table behind the header table and their own count
 abbrev pub rowsPlace : Book → Which → ℕ
 rowsPlace b which.Header = 20
 rowsPlace b (which.Number k) = 24 + 8 * length (b .heads)

@@ -25,8 +25,8 @@ const HEADER_ROWS: usize = 20;
 const ROW_WIDTH: usize = 8;
 
 // A column of the same upper half under another type: the first such tag and the place of its row. No column at all.
-// Absent, and the tag is listed in the record's truncated properties, or isn't: the place of the presence octet with the
-// tag's bit. Or the refusal.
+// Absent, and the tag is listed in the record's truncated properties, or isn't: the place of the presence octet with
+// the tag's bit. Or the refusal.
 pub enum Reason {
     OtherType(u32, usize),
     NoColumn,

@@ -12,7 +12,9 @@ use Rattle.reason.proofs.find_half.Reads as reads
 use Rattle.reason.proofs.find_half.Lts as lts
 
 abbrev Inv-loop : tie.InvT-loop
-Inv-loop tags tag i₀ i = (i ≤ length tags) × (movedBy i (columnIn (upper tag) (drop i (uppersOf tags))) ≡ columnIn (upper tag) (uppersOf tags))
+Inv-loop tags tag i₀ i =
+    (i ≤ length tags)
+    × (movedBy i (columnIn (upper tag) (drop i (uppersOf tags))) ≡ columnIn (upper tag) (uppersOf tags))
 
 abbrev μ-loop : tie.MeasureT-loop
 μ-loop tags tag i₀ i = length tags - i

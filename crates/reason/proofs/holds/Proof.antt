@@ -12,7 +12,8 @@ use Rattle.reason.proofs.holds.Lts as lts
 use Rattle.whole.proofs.read_number.Reads as read-number-reads
 
 abbrev Inv-loop : tie.InvT-loop
-Inv-loop list tag n w left₀ i₀ left i = (i ≤ length list) × (memb tag (numbersFrom left (drop i list)) ≡ memb tag (numbersIn list))
+Inv-loop list tag n w left₀ i₀ left i =
+    (i ≤ length list) × (memb tag (numbersFrom left (drop i list)) ≡ memb tag (numbersIn list))
 
 abbrev μ-loop : tie.MeasureT-loop
 μ-loop list tag n w left₀ i₀ left i = left
