@@ -1,10 +1,10 @@
 -- What leaves every octet of the buffer: a refused call; clearing a value that is absent, and setting the value that is there (decision 21).
-use Prim.Native.Nat.{ℕ, zero, suc, _-_, _≤_, _<_}
+use Prim.Native.Nat.{ℕ, _-_, _≤_, _<_}
 use native.Mathlib.Omega.{arith}
 use mathlib.Core.Path.{_≡_, refl, sym, ap, _∙_}
 use mathlib.Core.Option.{Option, none, some}
 use mathlib.Core.List.{List, [], _∷_}
-use lib.ListN.{length, getD, take}
+use lib.ListN.{length, take}
 use lib.Seq.{length-take-le}
 use Rattle.octets.specs.Cases.{split}
 use Rattle.octets.specs.Octets.{Octets, octets-take}
@@ -17,8 +17,7 @@ use Rattle.answers.specs.Verdict.{kept}
 use Rattle.table.specs.Columns.{tagsOf}
 use Rattle.table.specs.declared.Found.{Found}
 use Rattle.table.specs.declared.Found.the-variants.{At, Nothing}
-use Rattle.entry.specs.Present.{Row}
-use Rattle.entry.specs.Record.{Slot, SoundEntry, SoundRow, noSlot}
+use Rattle.entry.specs.Record.{noSlot, sound-entry}
 use Rattle.book.specs.Book.{Book, bookOctets, judge}
 use Rattle.book.specs.Whole.{judge-sound}
 use Rattle.lookup.specs.Look.{columnIn, lookIn, lookBy, lookupOf, stretchOf}
@@ -84,12 +83,6 @@ handed-there d len x (Number k) t e q =
 
 -- ---- the value that is there
 
-entry-at : (ss : List Slot) (es : Row) (c : ℕ) (s : Slot) → SoundRow ss es → c < length ss → SoundEntry (getD ss c s) (entryAt es c)
-entry-at [] es c s h l = absurd (omega arith)
-entry-at (x ∷ ss) [] c s h l = absurd h
-entry-at (x ∷ ss) (e ∷ es) zero s h l = h .0
-entry-at (x ∷ ss) (e ∷ es) (suc c) s h l = entry-at ss es c s (h .1) (omega arith)
-
 module _ (d : List ℕ) (len : ℕ) (which : Which) (t : ℕ) (e : Option (List ℕ)) where
   same-may : (x : BookIn d len) (c : ℕ) → There (x .book) which → columnIn t (tagsOf (columnsFor (x .book) which)) ≡ At c → entryAt (rowFor (x .book) which) c ≡ e → SetMay d len which t e
   same-may x c h f q =
@@ -106,7 +99,7 @@ module _ (d : List ℕ) (len : ℕ) (which : Which) (t : ℕ) (e : Option (List 
         named = h;
         column = c;
         found = f;
-        holds = rw q at (entry-at (slotsUnder b which) (rowFor b which) c noSlot (row-sound b (x .sound) which h) (omega arith));
+        holds = rw q at (sound-entry (slotsUnder b which) (rowFor b which) c noSlot (row-sound b (x .sound) which h) (omega arith));
         short = omega arith;
         room = omega arith;
       }

@@ -1,17 +1,21 @@
 -- A record by its name, the header record or a number. In a table: whether there is one, its columns and its row. In
 -- octets: whether there is one, and where it starts.
-use Prim.Native.Nat.{ℕ, _<_}
+use Prim.Native.Nat.{ℕ, zero, suc, _%_, _<_}
+use native.Mathlib.Omega.{arith}
 use mathlib.Core.Path.{_≡_, refl}
 use mathlib.Core.Bool.{Bool, true, false}
-use mathlib.Core.List.{List}
+use mathlib.Core.Option.{none, some}
+use mathlib.Core.List.{List, [], _∷_}
 use lib.Dec.{ltb}
-use lib.ListN.{length, drop}
+use lib.ListN.{length, getD, drop}
 use borrow.Author.Tests.{lt-ltb, ltb-true}
+use Rattle.value.specs.Types.{formOf}
+use Rattle.value.specs.Form.{IsValue}
 use Rattle.table.specs.Table.{Column, SoundTable}
 use Rattle.table.specs.Columns.{tagsOf}
 use Rattle.entry.specs.Present.{Row}
-use Rattle.entry.specs.Record.{Slot, SoundRow}
-use Rattle.book.specs.Book.{Book, Sound, slots-long, headSlots, rowSlots, recordsPlace, countIn}
+use Rattle.entry.specs.Record.{Slot, noSlot, SoundRow, sound-entry}
+use Rattle.book.specs.Book.{Book, Sound, slotsOf, slots-long, headSlots, rowSlots, recordsPlace, countIn}
 use Rattle.lookup.specs.Places.{placeIn, rowAt, sound-at}
 use Rattle.lookup.specs.declared.Which.{Which}
 use Rattle.lookup.specs.declared.Which.the-variants.{Header, Number}
@@ -50,6 +54,25 @@ columns-sound b s (Number k) = s .cols
 pub row-sound : (b : Book) → Sound b → (w : Which) → There b w → SoundRow (slotsUnder b w) (rowFor b w)
 row-sound b s Header h = s .head
 row-sound b s (Number k) h = sound-at (rowSlots (b .cols)) (b .rows) k (s .rows) h
+
+-- and each of its values has the form of its column's type
+slots-form : (m : Bool) (cs : List Column) (c : ℕ) → c < length cs
+    → getD (slotsOf m cs) c noSlot .form ≡ formOf (getD (tagsOf cs) c 0 % 65536)
+slots-form m [] c l = absurd (omega arith)
+slots-form m (x ∷ cs) zero l = refl
+slots-form m (x ∷ cs) (suc c) l = slots-form m cs c (omega arith)
+
+slot-form : (b : Book) (w : Which) (c : ℕ) → c < length (columnsFor b w)
+    → getD (slotsUnder b w) c noSlot .form ≡ formOf (getD (tagsUnder b w) c 0 % 65536)
+slot-form b Header = slots-form false (b .heads)
+slot-form b (Number k) = slots-form true (b .cols)
+
+pub value-formed : (b : Book) → Sound b → (w : Which) → There b w → (c : ℕ) (v : List ℕ)
+    → c < length (columnsFor b w) → getD (rowFor b w) c none ≡ some v
+    → IsValue (formOf (getD (tagsUnder b w) c 0 % 65536)) v
+value-formed b s w h c v l e =
+    let k = rw e at (sound-entry (slotsUnder b w) (rowFor b w) c noSlot (row-sound b s w h) (rw (slots-reach b w) l)) in
+    rw (slot-form b w c l) at (k .0)
 
 -- ---- in octets
 

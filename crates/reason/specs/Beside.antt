@@ -20,7 +20,7 @@ use Rattle.entry.specs.Present.{Row, there}
 use Rattle.entry.specs.Record.{unlike}
 use Rattle.book.specs.Book.{Book, judge}
 use Rattle.book.specs.Read.{bookIn, book-reads, rows-count}
-use Rattle.lookup.specs.Look.{noSuch, columnIn, inColumn as lookInColumn, lookIn, lookupOf}
+use Rattle.lookup.specs.Look.{noSuch, columnIn, inColumn, lookIn, lookupOf}
 use Rattle.lookup.specs.Laws.{lookOf, bookLook, look-is}
 use Rattle.lookup.specs.Named.{There, tagsUnder, rowFor, hasRecord, startFor, named-in}
 use Rattle.lookup.specs.declared.Which.{Which}
@@ -29,8 +29,8 @@ use Rattle.lookup.specs.declared.Looked.{Looked}
 use Rattle.lookup.specs.declared.Looked.the-variants as looked
 use Rattle.reason.specs.declared.Reason.{Reason}
 use Rattle.reason.specs.declared.Reason.the-variants as reason
-use Rattle.reason.specs.Why.{entryIn, valueFor, upper, uppersOf, rowsPlace, otherBy, otherType, isListed}
-use Rattle.reason.specs.Why.{presencePlace, absentAt, inColumn, replyIn, reasonBy, whyAt, whyOf}
+use Rattle.reason.specs.Why.{valueIn, valueFor, upper, uppersOf, rowsPlace, otherBy, otherType, isListed}
+use Rattle.reason.specs.Why.{presencePlace, absentAt, replyBy, replyIn, reasonBy, whyAt, whyOf}
 use Rattle.reason.specs.Cause.{present, answerIn, why-is}
 
 -- 15, as the lookup refuses an unknown tag
@@ -60,7 +60,7 @@ module _ (b : Book) (w : Which) (at t : ℕ) (place : ℕ → ℕ) where
   abbrev es : Row
   es = rowFor b w
 
-  by-column : Beside (lookInColumn (columnIn t tags) (λ c. lookOf (place c) (getD es c none))) (answerIn b w at t)
+  by-column : Beside (inColumn (columnIn t tags) (λ c. lookOf (place c) (getD es c none))) (answerIn b w at t)
   unfolding answerIn valueFor replyIn otherType
   by-column = go (columnIn t tags)
     where
@@ -78,9 +78,9 @@ module _ (b : Book) (w : Which) (at t : ℕ) (place : ℕ → ℕ) where
       entry s (some v) p = refl
 
       go : (f : Found)
-          → Beside (lookInColumn f (λ c. lookOf (place c) (getD es c none)))
-          (reasonBy (need (not (there (entryIn f es))) breaksForm 0)
-          (inColumn f (otherType tags (rowsPlace b w) t) (λ c. absentAt (isListed b w t) (presencePlace at c))))
+          → Beside (inColumn f (λ c. lookOf (place c) (getD es c none)))
+          (reasonBy (need (not (there (valueIn f es))) breaksForm 0)
+          (replyBy f (otherType tags (rowsPlace b w) t) (λ c. absentAt (isListed b w t) (presencePlace at c))))
       go Nothing = other (columnIn (upper t) (uppersOf tags))
       go (At c) = entry (place c) (getD es c none) (presencePlace at c)
 

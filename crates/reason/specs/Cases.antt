@@ -45,17 +45,17 @@ use Rattle.lookup.specs.Look.{columnIn}
 use Rattle.lookup.specs.Laws.{column-below, column-in}
 use Rattle.lookup.specs.Cases.{movedBy, find-start, find-none, find-here, find-next, walk-place}
 use Rattle.lookup.specs.Back.{record-good}
-use Rattle.lookup.specs.Named.{There, columnsFor, rowFor, columns-sound, startFor}
+use Rattle.lookup.specs.Named.{There, columnsFor, rowFor, columns-sound, value-formed, startFor}
 use Rattle.lookup.specs.Read.{record-cells}
 use Rattle.lookup.specs.declared.Which.{Which}
 use Rattle.lookup.specs.declared.Which.the-variants as which
 use Rattle.reason.specs.declared.Reason.{Reason}
 use Rattle.reason.specs.declared.Reason.the-variants as reason
-use Rattle.reason.specs.Why.{entryIn, valueFor, upper, uppersOf, rowsPlace, otherType, truncated, read}
-use Rattle.reason.specs.Why.{numbersFrom, numbersIn, listedIn, isListed, presencePlace, absentAt, inColumn}
+use Rattle.reason.specs.Why.{valueIn, valueFor, upper, uppersOf, rowsPlace, otherType, truncated, read}
+use Rattle.reason.specs.Why.{numbersFrom, numbersIn, listedIn, isListed, presencePlace, absentAt, replyBy}
 use Rattle.reason.specs.Why.{replyIn, reasonBy, whyAt, whyOf}
 use Rattle.reason.specs.Halves.{uppers-long, upper-at}
-use Rattle.reason.specs.Cause.{present, answerIn, value-sound, why-is}
+use Rattle.reason.specs.Cause.{present, answerIn, why-is}
 
 -- the truncated properties as they are cut from the book
 abbrev pub cutBy : Found → List ℕ → Cells → List ℕ
@@ -71,7 +71,7 @@ cellWhy b cells tags c at t =
 
 unfoldable pub tableWhy : List ℕ → List ℕ → List ℕ → ℕ → ℕ → ℕ → Reason
 tableWhy b tags forms at rows t =
-    inColumn (columnIn t tags) (otherType tags rows t) (λ c. cellWhy b (cellsIn forms at (drop at b)) tags c at t)
+    replyBy (columnIn t tags) (otherType tags rows t) (λ c. cellWhy b (cellsIn forms at (drop at b)) tags c at t)
 
 abbrev pub columnsWhy : List ℕ → Columns → ℕ → ℕ → ℕ → Reason
 columnsWhy b columns at rows t =
@@ -262,7 +262,7 @@ module _ (b : List ℕ) (o : Octets b) (e : judge b ≡ clear) (w : Which) (h : 
       cell-cut (getD (rowFor (bookIn b) w) c none) b cells c (omega arith) (record-cells b o e w h c l)
 
   cut-entry : (f : Found) → columnIn truncated (tagsOf cs) ≡ f
-      → numbersIn (cutBy f b cells) ≡ listedIn (entryIn f (rowFor (bookIn b) w))
+      → numbersIn (cutBy f b cells) ≡ listedIn (valueIn f (rowFor (bookIn b) w))
   cut-entry Nothing q = numbers-none
   cut-entry (At d) q =
       ap numbersIn (cut-is d (column-in truncated cs d q)) ∙ listed-octets (getD (rowFor (bookIn b) w) d none)
@@ -282,7 +282,7 @@ module _ (b : List ℕ) (o : Octets b) (e : judge b ≡ clear) (w : Which) (h : 
           → cond (ltb 0 (length (entryOctets o))) present (absentAt (isListed (bookIn b) w t) (presencePlace at c))
           ≡ reasonBy (need (not (there o)) breaksForm 0) (absentAt (isListed (bookIn b) w t) (presencePlace at c))
       by none z = refl
-      by (some v) z = rw (lt-ltb 0 (length v) (value-some _ v (value-sound (bookIn b) sound w h c v l z)))
+      by (some v) z = rw (lt-ltb 0 (length v) (value-some _ v (value-formed (bookIn b) sound w h c v l z)))
 
   -- the code's reply is the answer of the record
   pub answer-same : (t : ℕ)
@@ -291,9 +291,9 @@ module _ (b : List ℕ) (o : Octets b) (e : judge b ≡ clear) (w : Which) (h : 
   answer-same t = by (columnIn t (tagsOf cs)) refl
     where
       by : (f : Found) → columnIn t (tagsOf cs) ≡ f
-          → inColumn f (otherType (tagsOf cs) (rowsPlace (bookIn b) w) t) (λ c. cellWhy b cells (tagsOf cs) c at t)
-          ≡ reasonBy (need (not (there (entryIn f (rowFor (bookIn b) w)))) breaksForm 0)
-          (inColumn f (otherType (tagsOf cs) (rowsPlace (bookIn b) w) t)
+          → replyBy f (otherType (tagsOf cs) (rowsPlace (bookIn b) w) t) (λ c. cellWhy b cells (tagsOf cs) c at t)
+          ≡ reasonBy (need (not (there (valueIn f (rowFor (bookIn b) w)))) breaksForm 0)
+          (replyBy f (otherType (tagsOf cs) (rowsPlace (bookIn b) w) t)
           (λ c. absentAt (isListed (bookIn b) w t) (presencePlace at c)))
       by Nothing z = refl
       by (At c) z = cell-same c t (column-in t cs c z)

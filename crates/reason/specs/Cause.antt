@@ -1,6 +1,6 @@
 -- The reply is the true reason: of an accepted book and a record that is there, each reply is given exactly when its
 -- cause holds in the table, and of the four causes and "present" one holds, and only one.
-use Prim.Native.Nat.{ℕ, zero, suc, _+_, _*_, _%_, _<_}
+use Prim.Native.Nat.{ℕ, _+_, _*_, _%_, _<_}
 use native.Mathlib.Omega.{arith}
 use mathlib.Core.Path.{_≡_, refl, sym, ap, _∙_}
 use mathlib.Core.Bool.{Bool, true, false, not}
@@ -12,27 +12,25 @@ use Rattle.answers.specs.Numbers.{breaksForm}
 use Rattle.answers.specs.declared.Verdict.the-variants.{Clear as clear}
 use Rattle.answers.specs.Verdict.{need}
 use Rattle.value.specs.Types.{many, number, formOf, formIn, numberOf, formAt}
-use Rattle.value.specs.Form.{IsValue}
-use Rattle.table.specs.Table.{Column}
-use Rattle.table.specs.Columns.{tagsOf, tags-long}
+use Rattle.table.specs.Columns.{tags-long}
 use Rattle.table.specs.Repeat.{memb}
 use Rattle.table.specs.declared.Found.{Found}
 use Rattle.table.specs.declared.Found.the-variants.{At, Nothing}
 use Rattle.entry.specs.Present.{Row, there}
-use Rattle.entry.specs.Record.{SoundRow, unlike}
-use Rattle.book.specs.Book.{Book, Sound, slotsOf, judge}
+use Rattle.entry.specs.Record.{unlike}
+use Rattle.book.specs.Book.{Book, Sound, judge}
 use Rattle.book.specs.Read.{bookIn, book-reads, rows-count}
 use Rattle.lookup.specs.Look.{columnIn}
 use Rattle.lookup.specs.Laws.{column-below, column-tag, column-in}
 use Rattle.lookup.specs.Search.{column-none, column-before, column-not, column-at, only-column}
-use Rattle.lookup.specs.Named.{There, columnsFor, tagsUnder, rowFor, columns-sound, row-sound, startFor, has-named}
+use Rattle.lookup.specs.Named.{There, columnsFor, tagsUnder, rowFor, columns-sound, startFor, value-formed, has-named}
 use Rattle.lookup.specs.Tagged.{Under}
 use Rattle.lookup.specs.declared.Which.{Which}
 use Rattle.lookup.specs.declared.Which.the-variants as which
 use Rattle.reason.specs.declared.Reason.{Reason}
 use Rattle.reason.specs.declared.Reason.the-variants as reason
-use Rattle.reason.specs.Why.{entryIn, valueFor, upper, uppersOf, rowsPlace, otherBy, otherType, truncated}
-use Rattle.reason.specs.Why.{listedIn, isListed, presencePlace, absentAt, inColumn, replyIn, reasonBy}
+use Rattle.reason.specs.Why.{valueIn, valueFor, upper, uppersOf, rowsPlace, otherBy, otherType, truncated}
+use Rattle.reason.specs.Why.{listedIn, isListed, presencePlace, absentAt, replyBy, replyIn, reasonBy}
 use Rattle.reason.specs.Why.{whyAt, whyOf}
 use Rattle.reason.specs.Halves.{uppers-long, upper-at}
 use Rattle.reason.specs.Numbers.{NumbersAre, numbers-back, numbers-are, Among, memb-among, among-memb}
@@ -91,22 +89,6 @@ Cause b w at t (reason.Refused r) = IsPresent b w t × (present ≡ reason.Refus
 unfoldable pub answerIn : Book → Which → ℕ → ℕ → Reason
 answerIn b w at t = reasonBy (need (not (there (valueFor b w t))) breaksForm 0) (replyIn b w at t)
 
--- ---- a value in a sound row has the form of its column
-
-pub sound-value : (m : Bool) (cs : List Column) (es : Row) (d : ℕ) (v : List ℕ) → SoundRow (slotsOf m cs) es
-    → d < length cs → getD es d none ≡ some v → IsValue (formOf (getD (tagsOf cs) d 0 % 65536)) v
-sound-value m [] es d v s l e = absurd (omega arith)
-sound-value m (c ∷ cs) [] d v s l e = absurd s
-sound-value m (c ∷ cs) (none ∷ es) zero v s l e = let q : _≡_ {A = ℕ} 0 1 = cc in absurd (omega arith)
-sound-value m (c ∷ cs) (some u ∷ es) zero v s l e = let q : u ≡ v = cc in rw (← q) (s .0 .0)
-sound-value m (c ∷ cs) (x ∷ es) (suc d) v s l e = sound-value m cs es d v (s .1) (omega arith) e
-
-pub value-sound : (b : Book) → Sound b → (w : Which) → There b w → (d : ℕ) (v : List ℕ) → d < length (columnsFor b w)
-    → getD (rowFor b w) d none ≡ some v → IsValue (formOf (getD (tagsUnder b w) d 0 % 65536)) v
-value-sound b s which.Header h d v l e = sound-value false (b .heads) (b .head) d v (s .head) l e
-value-sound b s (which.Number k) h d v l e =
-    sound-value true (b .cols) (rowFor b (which.Number k)) d v (row-sound b s (which.Number k) h) l e
-
 truncated-form : formOf (truncated % 65536) ≡ many number
 unfolding formIn numberOf formAt formOf
 truncated-form = refl
@@ -140,7 +122,7 @@ module _ (b : Book) (s : Sound b) (w : Which) (h : There b w) (at t : ℕ) where
   unfolding valueFor
   value-under u v e = by (columnIn u tags) refl e
     where
-      by : (f : Found) → columnIn u tags ≡ f → entryIn f es ≡ some v → Under b w u v
+      by : (f : Found) → columnIn u tags ≡ f → valueIn f es ≡ some v → Under b w u v
       by Nothing z q = let n : _≡_ {A = ℕ} 0 1 = cc in absurd (omega arith)
       by (At c) z q = let x = below u c z in record { column = c; there = x .there; tag = x .tag; value = q }
 
@@ -153,7 +135,7 @@ module _ (b : Book) (s : Sound b) (w : Which) (h : There b w) (at t : ℕ) where
   under-numbers : (v : List ℕ) → Under b w truncated v → NumbersAre v
   under-numbers v x =
       numbers-are v
-      (rw (x .tag, truncated-form) at (value-sound b s w h (x .column) v (x .there) (x .value)))
+      (rw (x .tag, truncated-form) at (value-formed b s w h (x .column) v (x .there) (x .value)))
 
   is-listed : isListed b w t ≡ true → IsListed b w t
   unfolding isListed
@@ -256,8 +238,8 @@ module _ (b : Book) (s : Sound b) (w : Which) (h : There b w) (at t : ℕ) where
 
       by : (f : Found) → columnIn t tags ≡ f
           → Cause b w at t
-          (reasonBy (need (not (there (entryIn f es))) breaksForm 0)
-          (inColumn f (otherType tags (rowsPlace b w) t) (λ c. absentAt (isListed b w t) (presencePlace at c))))
+          (reasonBy (need (not (there (valueIn f es))) breaksForm 0)
+          (replyBy f (otherType tags (rowsPlace b w) t) (λ c. absentAt (isListed b w t) (presencePlace at c))))
       by Nothing e = other e (columnIn (upper t) (uppersOf tags)) refl
       by (At c) e = found c (below t c e) (getD es c none) refl
 

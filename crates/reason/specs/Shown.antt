@@ -15,7 +15,7 @@ use Rattle.answers.specs.declared.Verdict.the-variants.{Clear as clear}
 use Rattle.presence.specs.Presence.{room, bitOf, bitAt, isSet, bit-lt}
 use Rattle.table.specs.Table.{columnsOf, tableOf, behind}
 use Rattle.table.specs.Columns.{tagsOf, columns-long}
-use Rattle.entry.specs.Present.{Row, there, presenceOf, Bits, presence-length, presence-bits}
+use Rattle.entry.specs.Present.{Row, there, presenceOf, presence-length, presence-bits, bits-at}
 use Rattle.entry.specs.Record.{rowOctets, valuesOf, row-long, row-length, present-is}
 use Rattle.book.specs.Book.{Book, judge}
 use Rattle.book.specs.Read.{bookIn, heads-are, cols-are, book-reads}
@@ -77,13 +77,6 @@ row-stands xs (which.Number k) i h =
 
 -- ---- a bit of the presence octets
 
-bits-at : (p : List ℕ) (i c : ℕ) (es : Row) → Bits p i es → c < length es → isSet p (i + c) ≡ there (getD es c none)
-bits-at p i c [] b h = absurd (omega arith)
-bits-at p i zero (e ∷ es) b h = let z : i + 0 ≡ i = omega arith in rw z (b .0)
-bits-at p i (suc c) (e ∷ es) b h =
-    let z : suc i + c ≡ i + suc c = omega arith in
-    rw z at (bits-at p (suc i) c es (b .1) (omega arith))
-
 -- the bit of column c, in the record at `at`
 module _ (xs : List ℕ) (at c : ℕ) (es : Row) (rest : List ℕ) (d : drop at xs ≡ rowOctets es ++ rest)
     (h : c < length es) where
@@ -110,7 +103,7 @@ module _ (xs : List ℕ) (at c : ℕ) (es : Row) (rest : List ℕ) (d : drop at 
   bit-stands e =
       let z : 0 + c ≡ c = omega arith in
       let b : isSet (presenceOf es) c ≡ false =
-      rw z at (bits-at (presenceOf es) 0 c es (presence-bits es) h) ∙ ap there e in
+      rw z at (bits-at (presenceOf es) 0 es (presence-bits es) c h) ∙ ap there e in
       let k = bit-lt (octetAt (presenceOf es) (c / 8)) (7 - c % 8) in
       let n : bitOf (octetAt (presenceOf es) (c / 8)) (7 - c % 8) ≡ 1 → ⊥ = eqb-false _ 1 b in
       rw octet-stands (zero-bit _ k n)

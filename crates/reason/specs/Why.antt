@@ -37,12 +37,12 @@ uppersOf (t ∷ ts) = upper t ∷ uppersOf ts
 -- ---- the value under a whole tag
 
 -- what a row has in the column that was found; nothing where none was
-abbrev pub entryIn : Found → Row → Option (List ℕ)
-entryIn Nothing es = none
-entryIn (At c) es = getD es c none
+abbrev pub valueIn : Found → Row → Option (List ℕ)
+valueIn Nothing es = none
+valueIn (At c) es = getD es c none
 
 unfoldable pub valueFor : Book → Which → ℕ → Option (List ℕ)
-valueFor b w t = entryIn (columnIn t (tagsUnder b w)) (rowFor b w)
+valueFor b w t = valueIn (columnIn t (tagsUnder b w)) (rowFor b w)
 
 -- ---- a column of the same upper half under another type
 
@@ -95,14 +95,14 @@ presencePlace at c = at + 4 + c / 8
 abbrev pub absentAt : Bool → ℕ → Reason
 absentAt listed place = cond listed (reason.Listed place) (reason.NotListed place)
 
-abbrev pub inColumn : Found → Reason → (ℕ → Reason) → Reason
-inColumn Nothing r f = r
-inColumn (At c) r f = f c
+abbrev pub replyBy : Found → Reason → (ℕ → Reason) → Reason
+replyBy Nothing r f = r
+replyBy (At c) r f = f c
 
 -- of a record at `at` that has no value under the tag
 unfoldable pub replyIn : Book → Which → ℕ → ℕ → Reason
 replyIn b w at t =
-    inColumn (columnIn t (tagsUnder b w)) (otherType (tagsUnder b w) (rowsPlace b w) t)
+    replyBy (columnIn t (tagsUnder b w)) (otherType (tagsUnder b w) (rowsPlace b w) t)
     (λ c. absentAt (isListed b w t) (presencePlace at c))
 
 -- the book's refusals, 15 for the record, 18 where the value is present
