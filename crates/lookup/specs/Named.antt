@@ -4,7 +4,7 @@ use Prim.Native.Nat.{ℕ, zero, suc, _%_, _<_}
 use native.Mathlib.Omega.{arith}
 use mathlib.Core.Path.{_≡_, refl}
 use mathlib.Core.Bool.{Bool, true, false}
-use mathlib.Core.Option.{none, some}
+use mathlib.Core.Option.{Option, none, some}
 use mathlib.Core.List.{List, [], _∷_}
 use lib.Dec.{ltb}
 use lib.ListN.{length, getD, drop}
@@ -13,10 +13,13 @@ use Rattle.value.specs.Types.{formOf}
 use Rattle.value.specs.Form.{IsValue}
 use Rattle.table.specs.Table.{Column, SoundTable}
 use Rattle.table.specs.Columns.{tagsOf}
+use Rattle.table.specs.declared.Found.{Found}
+use Rattle.table.specs.declared.Found.the-variants.{At, Nothing}
 use Rattle.entry.specs.Present.{Row}
 use Rattle.entry.specs.Record.{Slot, noSlot, SoundRow, sound-entry}
 use Rattle.book.specs.Book.{Book, Sound, slotsOf, slots-long, headSlots, rowSlots, recordsPlace, countIn}
 use Rattle.lookup.specs.Places.{placeIn, rowAt, sound-at}
+use Rattle.lookup.specs.Look.{columnIn}
 use Rattle.lookup.specs.declared.Which.{Which}
 use Rattle.lookup.specs.declared.Which.the-variants.{Header, Number}
 
@@ -45,6 +48,14 @@ slots-reach b (Number k) = slots-long true (b .cols)
 abbrev pub rowFor : Book → Which → Row
 rowFor b Header = b .head
 rowFor b (Number k) = rowAt b k
+
+-- what a row has in the column that was found, nothing where none was; and what a record has under a whole tag
+abbrev pub valueIn : Found → Row → Option (List ℕ)
+valueIn Nothing es = none
+valueIn (At c) es = getD es c none
+
+unfoldable pub valueFor : Book → Which → ℕ → Option (List ℕ)
+valueFor b w t = valueIn (columnIn t (tagsUnder b w)) (rowFor b w)
 
 -- in a sound book the table is sound, and the record is a sound row under its columns
 pub columns-sound : (b : Book) → Sound b → (w : Which) → SoundTable (columnsFor b w)

@@ -1,28 +1,30 @@
--- The rows of the book that stands in octets, by the places of its records; and in an accepted book the cells of a
--- record are the values of its row.
+-- The rows of the book that stands in octets, by the places of its records; and in an accepted book the values of a
+-- record stand between its edges.
 use Prim.Native.Nat.{ℕ, zero, suc, _+_, _≤_, _<_}
 use native.Mathlib.Omega.{arith}
-use mathlib.Core.Path.{_≡_, sym, ap, _∙_}
+use mathlib.Core.Path.{_≡_, sym, ap, ap₂, _∙_}
 use mathlib.Core.Bool.{true}
 use mathlib.Core.Option.{none}
 use mathlib.Core.List.{List, [], _∷_, _++_}
 use lib.ListN.{length, getD, drop}
-use lib.Seq.{drop-drop}
+use lib.Seq.{drop-drop, drop-append-seam}
 use borrow.Author.Tests.{ltb-true}
 use Rattle.octets.specs.Octets.{Octets}
+use Rattle.octets.specs.Splice.{stored}
 use Rattle.octets.specs.Word.{wordOf}
 use Rattle.answers.specs.declared.Verdict.the-variants.{Clear as clear}
 use Rattle.table.specs.Table.{Column}
 use Rattle.table.specs.Columns.{formsOf, bitsOf, forms-long}
-use Rattle.entry.specs.Record.{Slot, rowOctets}
+use Rattle.entry.specs.Record.{Slot, rowOctets, row-size}
 use Rattle.entry.specs.Read.{rowIn}
 use Rattle.entry.specs.Slots.{slotsFrom}
-use Rattle.entry.specs.Cells.{CellOf, cellsIn, row-cell}
+use Rattle.entry.specs.Values.{entryOctets}
+use Rattle.edges.specs.Edges.{edgesIn, cellIn, row-cell}
 use Rattle.book.specs.Rows.{rowsOctets}
 use Rattle.book.specs.Book.{Book, Sound, headSlots, rowSlots, tablesOctets, bookOctets, headsIn, colsIn}
-use Rattle.book.specs.Book.{recordsPlace, countIn, judge}
+use Rattle.book.specs.Book.{recordsIn, recordsPlace, countIn, judge}
 use Rattle.book.specs.JudgeCases.{records-place, slots-head, slots-row}
-use Rattle.book.specs.Whole.{body-in}
+use Rattle.book.specs.Whole.{body-in, records-short}
 use Rattle.book.specs.Read.{rowsIn, bookIn, book-reads}
 use Rattle.book.specs.Front.{firstPlace, firstIn}
 use Rattle.book.specs.FrontCases.{first-place}
@@ -81,21 +83,31 @@ module _ (xs : List ℕ) (b : Book) (s : Sound b) (e : xs ≡ bookOctets b) wher
       let p : placeIn xs k ≡ placeOf b k = ap (λ (l : List ℕ). placeIn l k) e ∙ place-in b s k (omega arith) in
       rw (p, e) (record-from b k h)
 
-  cells-of : (w : Which) → There b w → (c : ℕ) → c < length (columnsFor b w)
-      → CellOf (getD (rowFor b w) c none) xs
-      (getD (cellsIn (formsOf (columnsFor b w)) (startFor xs w) (drop (startFor xs w) xs) .start) c 0)
-      (getD (cellsIn (formsOf (columnsFor b w)) (startFor xs w) (drop (startFor xs w) xs) .end) c 0)
-  cells-of w h c g =
+  -- the octets of the address records stand behind the header record
+  pub rows-stand : drop (firstPlace xs) xs ≡ rowsOctets (b .rows)
+  rows-stand =
+      let h = record-stands Header tt in
+      let r : recordsIn (drop 12 xs) ≡ rowOctets (b .head) ++ rowsOctets (b .rows) = sym (records-place xs) ∙ h in
+      let k = records-short b s in
+      let w : wordOf 4 (recordsIn (drop 12 xs)) ≡ length (rowOctets (b .head)) =
+      ap (wordOf 4) r ∙ row-size (b .head) (rowsOctets (b .rows)) (omega arith) in
+      sym (drop-drop (wordOf 4 (recordsIn (drop 12 xs))) (recordsPlace (drop 12 xs)) xs)
+      ∙ ap₂ (λ (n : ℕ) (y : List ℕ). drop n y) w h ∙ drop-append-seam (rowOctets (b .head)) (rowsOctets (b .rows))
+
+  cells-of : (w : Which) → There b w → (d : List ℕ) → length (columnsFor b w) < length d → (c : ℕ)
+      → c < length (columnsFor b w)
+      → cellIn xs (stored d 0 (edgesIn (formsOf (columnsFor b w)) (startFor xs w) (drop (startFor xs w) xs))) c
+      ≡ entryOctets (getD (rowFor b w) c none)
+  cells-of w h d r c g =
       let cs : List Column = columnsFor b w in
       let l : length (formsOf cs) ≡ length cs = forms-long cs in
-      let t = columns-sound b s w .0 in
-      row-cell (formsOf cs) (flagsFor b w) xs (startFor xs w) (rowFor b w) (behindFor b w) c (omega arith)
-      (rw e (s .short)) (rw (slots-for b w) (row-sound b s w h)) (record-stands w h) (omega arith)
+      row-cell (formsOf cs) (flagsFor b w) xs (startFor xs w) (rowFor b w) (behindFor b w) (rw e (s .short))
+      (rw (slots-for b w) (row-sound b s w h)) (record-stands w h) d (omega arith) c (omega arith)
 
--- the cells of the named record
-pub record-cells : (xs : List ℕ) → Octets xs → judge xs ≡ clear → (w : Which) → There (bookIn xs) w → (c : ℕ)
-    → c < length (columnsFor (bookIn xs) w)
-    → CellOf (getD (rowFor (bookIn xs) w) c none) xs
-    (getD (cellsIn (formsOf (columnsFor (bookIn xs) w)) (startFor xs w) (drop (startFor xs w) xs) .start) c 0)
-    (getD (cellsIn (formsOf (columnsFor (bookIn xs) w)) (startFor xs w) (drop (startFor xs w) xs) .end) c 0)
-record-cells xs o e w h c g = let k = book-reads xs o e in cells-of xs (bookIn xs) (k .0) (k .1) w h c g
+-- between the edges of the named record, laid down in an array, stand the values of its row
+pub record-cells : (xs : List ℕ) → Octets xs → judge xs ≡ clear → (w : Which) → There (bookIn xs) w → (d : List ℕ)
+    → length (columnsFor (bookIn xs) w) < length d → (c : ℕ) → c < length (columnsFor (bookIn xs) w)
+    → cellIn xs
+    (stored d 0 (edgesIn (formsOf (columnsFor (bookIn xs) w)) (startFor xs w) (drop (startFor xs w) xs))) c
+    ≡ entryOctets (getD (rowFor (bookIn xs) w) c none)
+record-cells xs o e w h d r c g = let k = book-reads xs o e in cells-of xs (bookIn xs) (k .0) (k .1) w h d r c g

@@ -23,13 +23,14 @@ use Rattle.book.specs.Read.{bookIn, book-reads, rows-count}
 use Rattle.lookup.specs.Look.{noSuch, columnIn, inColumn, lookIn, lookupOf}
 use Rattle.lookup.specs.Laws.{lookOf, bookLook, look-is}
 use Rattle.lookup.specs.Named.{There, tagsUnder, rowFor, hasRecord, startFor, named-in}
+use Rattle.lookup.specs.Named.{valueIn, valueFor}
 use Rattle.lookup.specs.declared.Which.{Which}
 use Rattle.lookup.specs.declared.Which.the-variants as which
 use Rattle.lookup.specs.declared.Looked.{Looked}
 use Rattle.lookup.specs.declared.Looked.the-variants as looked
 use Rattle.reason.specs.declared.Reason.{Reason}
 use Rattle.reason.specs.declared.Reason.the-variants as reason
-use Rattle.reason.specs.Why.{valueIn, valueFor, upper, uppersOf, rowsPlace, otherBy, otherType, isListed}
+use Rattle.reason.specs.Why.{upper, uppersOf, rowsPlace, otherBy, otherType, isListed}
 use Rattle.reason.specs.Why.{presencePlace, absentAt, replyBy, replyIn, reasonBy, whyAt, whyOf}
 use Rattle.reason.specs.Cause.{present, answerIn, why-is}
 

@@ -7,12 +7,13 @@ use mathlib.Core.Bool.{Bool, true, false, not, cond}
 use mathlib.Core.Option.{Option, none, some}
 use mathlib.Core.List.{List, [], _∷_}
 use lib.Dec.{ltb}
-use lib.ListN.{length, getD, take, drop, length-drop, length-take}
+use lib.ListN.{length, getD, take, drop, replicate, length-drop, length-take, length-replicate}
 use lib.Seq.{drop-drop}
 use mir.Val.{Fits}
 use mir.Syntax.{w8, w64}
 use borrow.Author.Tests.{eq-eqb, ne-eqb, lt-ltb, le-ltb}
 use Rattle.octets.specs.Octets.{Octets, octets-from, rest-of}
+use Rattle.octets.specs.Splice.{stored}
 use Rattle.answers.specs.Numbers.{outOfTurn, breaksForm, mostColumns}
 use Rattle.answers.specs.declared.Verdict.the-variants.{Clear as clear}
 use Rattle.answers.specs.Verdict.{need, apart}
@@ -30,8 +31,7 @@ use Rattle.table.specs.declared.Found.{Found}
 use Rattle.table.specs.declared.Found.the-variants.{At, Nothing}
 use Rattle.entry.specs.Present.{there}
 use Rattle.entry.specs.Values.{entryOctets}
-use Rattle.entry.specs.Cells.{cellsIn, cutOf, cell-cut}
-use Rattle.entry.specs.declared.cells.Cells.{Cells}
+use Rattle.edges.specs.Edges.{mostEdges, edgesIn, cellIn}
 use Rattle.book.specs.Book.{Book, Sound, headsIn, colsIn, headCount, colCount, recordsPlace, tablesAt, bodyAt, countIn}
 use Rattle.book.specs.Book.{headerAt, judge}
 use Rattle.book.specs.Judged.{judgedOf}
@@ -46,32 +46,37 @@ use Rattle.lookup.specs.Laws.{column-below, column-in}
 use Rattle.lookup.specs.Cases.{movedBy, find-start, find-none, find-here, find-next, walk-place}
 use Rattle.lookup.specs.Back.{record-good}
 use Rattle.lookup.specs.Named.{There, columnsFor, rowFor, columns-sound, value-formed, startFor}
+use Rattle.lookup.specs.Named.{valueIn, valueFor}
 use Rattle.lookup.specs.Read.{record-cells}
 use Rattle.lookup.specs.declared.Which.{Which}
 use Rattle.lookup.specs.declared.Which.the-variants as which
 use Rattle.reason.specs.declared.Reason.{Reason}
 use Rattle.reason.specs.declared.Reason.the-variants as reason
-use Rattle.reason.specs.Why.{valueIn, valueFor, upper, uppersOf, rowsPlace, otherType, truncated, read}
+use Rattle.reason.specs.Why.{upper, uppersOf, rowsPlace, otherType, truncated, read}
 use Rattle.reason.specs.Why.{numbersFrom, numbersIn, listedIn, isListed, presencePlace, absentAt, replyBy}
 use Rattle.reason.specs.Why.{replyIn, reasonBy, whyAt, whyOf}
 use Rattle.reason.specs.Halves.{uppers-long, upper-at}
 use Rattle.reason.specs.Cause.{present, answerIn, why-is}
 
--- the truncated properties as they are cut from the book
-abbrev pub cutBy : Found → List ℕ → Cells → List ℕ
-cutBy Nothing b cells = []
-cutBy (At d) b cells = cutOf b cells d
+-- the truncated properties as they stand between their edges
+abbrev pub cellBy : Found → List ℕ → List ℕ → List ℕ
+cellBy Nothing b edges = []
+cellBy (At d) b edges = cellIn b edges d
 
-unfoldable pub cutListed : List ℕ → Cells → List ℕ → ℕ → Bool
-cutListed b cells tags t = memb t (numbersIn (cutBy (columnIn truncated tags) b cells))
+unfoldable pub cellListed : List ℕ → List ℕ → List ℕ → ℕ → Bool
+cellListed b edges tags t = memb t (numbersIn (cellBy (columnIn truncated tags) b edges))
 
-unfoldable pub cellWhy : List ℕ → Cells → List ℕ → ℕ → ℕ → ℕ → Reason
-cellWhy b cells tags c at t =
-    cond (ltb 0 (length (cutOf b cells c))) present (absentAt (cutListed b cells tags t) (presencePlace at c))
+unfoldable pub cellWhy : List ℕ → List ℕ → List ℕ → ℕ → ℕ → ℕ → Reason
+cellWhy b edges tags c at t =
+    cond (ltb 0 (length (cellIn b edges c))) present (absentAt (cellListed b edges tags t) (presencePlace at c))
+
+-- the edges of the record at `at`, laid down in an array of zeros
+unfoldable pub edgesAt : List ℕ → ℕ → List ℕ → List ℕ
+edgesAt forms at b = stored (replicate mostEdges 0) 0 (edgesIn forms at (drop at b))
 
 unfoldable pub tableWhy : List ℕ → List ℕ → List ℕ → ℕ → ℕ → ℕ → Reason
 tableWhy b tags forms at rows t =
-    replyBy (columnIn t tags) (otherType tags rows t) (λ c. cellWhy b (cellsIn forms at (drop at b)) tags c at t)
+    replyBy (columnIn t tags) (otherType tags rows t) (λ c. cellWhy b (edgesAt forms at b) tags c at t)
 
 abbrev pub columnsWhy : List ℕ → Columns → ℕ → ℕ → ℕ → Reason
 columnsWhy b columns at rows t =
@@ -176,29 +181,29 @@ pub ruleset other-places = (other-in, other-mul, other-add)
 
 -- ---- is_listed and why_absent
 
-module _ (b : List ℕ) (cells : Cells) (tags : List ℕ) (t : ℕ) (f : Found) (q : f ≡ columnIn truncated tags) where
-  pub listed-none : f ≡ Nothing → false ≡ cutListed b cells tags t
-  unfolding cutListed numbersIn numberOf
+module _ (b : List ℕ) (edges : List ℕ) (tags : List ℕ) (t : ℕ) (f : Found) (q : f ≡ columnIn truncated tags) where
+  pub listed-none : f ≡ Nothing → false ≡ cellListed b edges tags t
+  unfolding cellListed numbersIn numberOf
   listed-none e = rw (← q, e)
 
-  pub listed-some : (d : ℕ) (xs : List ℕ) (r : Bool) → f ≡ At d → xs ≡ cutOf b cells d → r ≡ memb t (numbersIn xs)
-      → r ≡ cutListed b cells tags t
-  unfolding cutListed
+  pub listed-some : (d : ℕ) (xs : List ℕ) (r : Bool) → f ≡ At d → xs ≡ cellIn b edges d → r ≡ memb t (numbersIn xs)
+      → r ≡ cellListed b edges tags t
+  unfolding cellListed
   listed-some d xs r e y z = rw (← q, e, ← y) z
 
 pub ruleset listings = (listed-none, listed-some)
 
-module _ (b : List ℕ) (cells : Cells) (tags : List ℕ) (c at t : ℕ) (v : List ℕ) (ve : v ≡ cutOf b cells c) where
-  pub absent-not : 0 < length v → present ≡ cellWhy b cells tags c at t
+module _ (b : List ℕ) (edges : List ℕ) (tags : List ℕ) (c at t : ℕ) (v : List ℕ) (ve : v ≡ cellIn b edges c) where
+  pub absent-not : 0 < length v → present ≡ cellWhy b edges tags c at t
   unfolding cellWhy
   absent-not h = rw (← ve, lt-ltb 0 (length v) h)
 
-  module _ (h : length v ≤ 0) (l : Bool) (le : l ≡ cutListed b cells tags t) where
-    pub absent-listed : l ≡ true → reason.Listed (at + 4 + c / 8) ≡ cellWhy b cells tags c at t
+  module _ (h : length v ≤ 0) (l : Bool) (le : l ≡ cellListed b edges tags t) where
+    pub absent-listed : l ≡ true → reason.Listed (at + 4 + c / 8) ≡ cellWhy b edges tags c at t
     unfolding cellWhy
     absent-listed e = rw (← ve, le-ltb 0 (length v) h, ← le, e)
 
-    pub absent-unlisted : l ≡ false → reason.NotListed (at + 4 + c / 8) ≡ cellWhy b cells tags c at t
+    pub absent-unlisted : l ≡ false → reason.NotListed (at + 4 + c / 8) ≡ cellWhy b edges tags c at t
     unfolding cellWhy
     absent-unlisted e = rw (← ve, le-ltb 0 (length v) h, ← le, e)
 
@@ -216,10 +221,11 @@ module _ (b tags forms : List ℕ) (n at rows t : ℕ) (f : Found) (q : f ≡ co
   unfolding tableWhy
   in-none e z = rw (found-is, e) (rw (sub-zero n) at z)
 
-  pub in-some : (c : ℕ) (cells : Cells) → f ≡ At c → cells ≡ cellsIn (take (n - 0) forms) at (drop at b)
-      → r ≡ cellWhy b cells (take (n - 0) tags) c at t → r ≡ tableWhy b (take n tags) (take n forms) at rows t
-  unfolding tableWhy
-  in-some c cells e y z = rw (found-is, e) (rw (y, sub-zero n) at z)
+  pub in-some : (c : ℕ) (edges : List ℕ) → f ≡ At c
+      → edges ≡ stored (replicate mostEdges 0) 0 (edgesIn (take (n - 0) forms) at (drop at b))
+      → r ≡ cellWhy b edges (take (n - 0) tags) c at t → r ≡ tableWhy b (take n tags) (take n forms) at rows t
+  unfolding tableWhy edgesAt
+  in-some c edges e y z = rw (found-is, e) (rw (y, sub-zero n) at z)
 
 pub ruleset ins = (in-none, in-some)
 
@@ -233,7 +239,7 @@ column-few tags n t c f q e h =
     let k = tags-few tags n h in
     omega arith
 
--- ---- the cells hold what the row has
+-- ---- between the edges stands what the row has
 
 numbers-none : numbersIn [] ≡ []
 unfolding numbersIn numberOf
@@ -250,33 +256,35 @@ module _ (b : List ℕ) (o : Octets b) (e : judge b ≡ clear) (w : Which) (h : 
   abbrev at : ℕ
   at = startFor b w
 
-  abbrev cells : Cells
-  cells = cellsIn (formsOf cs) at (drop at b)
+  abbrev edges : List ℕ
+  edges = edgesAt (formsOf cs) at b
 
   sound : Sound (bookIn b)
   sound = book-reads b o e .0
 
-  cut-is : (c : ℕ) → c < length cs → cutOf b cells c ≡ entryOctets (getD (rowFor (bookIn b) w) c none)
-  cut-is c l =
+  cell-is : (c : ℕ) → c < length cs → cellIn b edges c ≡ entryOctets (getD (rowFor (bookIn b) w) c none)
+  unfolding edgesAt
+  cell-is c l =
       let few = columns-sound (bookIn b) sound w .0 in
-      cell-cut (getD (rowFor (bookIn b) w) c none) b cells c (omega arith) (record-cells b o e w h c l)
+      let z = length-replicate {A = ℕ} mostEdges 0 in
+      record-cells b o e w h (replicate mostEdges 0) (omega arith) c l
 
-  cut-entry : (f : Found) → columnIn truncated (tagsOf cs) ≡ f
-      → numbersIn (cutBy f b cells) ≡ listedIn (valueIn f (rowFor (bookIn b) w))
-  cut-entry Nothing q = numbers-none
-  cut-entry (At d) q =
-      ap numbersIn (cut-is d (column-in truncated cs d q)) ∙ listed-octets (getD (rowFor (bookIn b) w) d none)
+  cell-entry : (f : Found) → columnIn truncated (tagsOf cs) ≡ f
+      → numbersIn (cellBy f b edges) ≡ listedIn (valueIn f (rowFor (bookIn b) w))
+  cell-entry Nothing q = numbers-none
+  cell-entry (At d) q =
+      ap numbersIn (cell-is d (column-in truncated cs d q)) ∙ listed-octets (getD (rowFor (bookIn b) w) d none)
 
-  listed-same : (t : ℕ) → cutListed b cells (tagsOf cs) t ≡ isListed (bookIn b) w t
-  unfolding cutListed isListed valueFor
-  listed-same t = ap (memb t) (cut-entry (columnIn truncated (tagsOf cs)) refl)
+  listed-same : (t : ℕ) → cellListed b edges (tagsOf cs) t ≡ isListed (bookIn b) w t
+  unfolding cellListed isListed valueFor
+  listed-same t = ap (memb t) (cell-entry (columnIn truncated (tagsOf cs)) refl)
 
   cell-same : (c t : ℕ) → c < length cs
-      → cellWhy b cells (tagsOf cs) c at t
+      → cellWhy b edges (tagsOf cs) c at t
       ≡ reasonBy (need (not (there (getD (rowFor (bookIn b) w) c none))) breaksForm 0)
       (absentAt (isListed (bookIn b) w t) (presencePlace at c))
   unfolding cellWhy
-  cell-same c t l = rw (cut-is c l, listed-same t) (by (getD (rowFor (bookIn b) w) c none) refl)
+  cell-same c t l = rw (cell-is c l, listed-same t) (by (getD (rowFor (bookIn b) w) c none) refl)
     where
       by : (o : Option (List ℕ)) → getD (rowFor (bookIn b) w) c none ≡ o
           → cond (ltb 0 (length (entryOctets o))) present (absentAt (isListed (bookIn b) w t) (presencePlace at c))
@@ -291,7 +299,7 @@ module _ (b : List ℕ) (o : Octets b) (e : judge b ≡ clear) (w : Which) (h : 
   answer-same t = by (columnIn t (tagsOf cs)) refl
     where
       by : (f : Found) → columnIn t (tagsOf cs) ≡ f
-          → replyBy f (otherType (tagsOf cs) (rowsPlace (bookIn b) w) t) (λ c. cellWhy b cells (tagsOf cs) c at t)
+          → replyBy f (otherType (tagsOf cs) (rowsPlace (bookIn b) w) t) (λ c. cellWhy b edges (tagsOf cs) c at t)
           ≡ reasonBy (need (not (there (valueIn f (rowFor (bookIn b) w)))) breaksForm 0)
           (replyBy f (otherType (tagsOf cs) (rowsPlace (bookIn b) w) t)
           (λ c. absentAt (isListed (bookIn b) w t) (presencePlace at c)))

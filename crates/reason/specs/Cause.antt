@@ -23,13 +23,14 @@ use Rattle.book.specs.Read.{bookIn, book-reads, rows-count}
 use Rattle.lookup.specs.Look.{columnIn}
 use Rattle.lookup.specs.Laws.{column-below, column-tag, column-in}
 use Rattle.lookup.specs.Search.{column-none, column-before, column-not, column-at, only-column}
-use Rattle.lookup.specs.Named.{There, columnsFor, tagsUnder, rowFor, columns-sound, startFor, value-formed, has-named}
-use Rattle.lookup.specs.Tagged.{Under}
+use Rattle.lookup.specs.Named.{There, columnsFor, tagsUnder, rowFor, valueIn, valueFor, columns-sound, startFor}
+use Rattle.lookup.specs.Named.{value-formed, has-named}
+use Rattle.lookup.specs.Tagged.{Under, value-under, under-value}
 use Rattle.lookup.specs.declared.Which.{Which}
 use Rattle.lookup.specs.declared.Which.the-variants as which
 use Rattle.reason.specs.declared.Reason.{Reason}
 use Rattle.reason.specs.declared.Reason.the-variants as reason
-use Rattle.reason.specs.Why.{valueIn, valueFor, upper, uppersOf, rowsPlace, otherBy, otherType, truncated}
+use Rattle.reason.specs.Why.{upper, uppersOf, rowsPlace, otherBy, otherType, truncated}
 use Rattle.reason.specs.Why.{listedIn, isListed, presencePlace, absentAt, replyBy, replyIn, reasonBy}
 use Rattle.reason.specs.Why.{whyAt, whyOf}
 use Rattle.reason.specs.Halves.{uppers-long, upper-at}
@@ -116,20 +117,6 @@ module _ (b : Book) (s : Sound b) (w : Which) (h : There b w) (at t : ℕ) where
   reach : {c : ℕ} → c < length (columnsFor b w) → c < length tags
   reach {c} l = rw (tags-long (columnsFor b w)) l
 
-  -- ---- the value under a whole tag
-
-  value-under : (u : ℕ) (v : List ℕ) → valueFor b w u ≡ some v → Under b w u v
-  unfolding valueFor
-  value-under u v e = by (columnIn u tags) refl e
-    where
-      by : (f : Found) → columnIn u tags ≡ f → valueIn f es ≡ some v → Under b w u v
-      by Nothing z q = let n : _≡_ {A = ℕ} 0 1 = cc in absurd (omega arith)
-      by (At c) z q = let x = below u c z in record { column = c; there = x .there; tag = x .tag; value = q }
-
-  under-value : (u : ℕ) (v : List ℕ) → Under b w u v → valueFor b w u ≡ some v
-  unfolding valueFor
-  under-value u v x = rw (only u (x .column) (record { there = x .there; tag = x .tag })) (x .value)
-
   -- ---- listed
 
   under-numbers : (v : List ℕ) → Under b w truncated v → NumbersAre v
@@ -144,14 +131,14 @@ module _ (b : Book) (s : Sound b) (w : Which) (h : There b w) (at t : ℕ) where
       by : (o : Option (List ℕ)) → valueFor b w truncated ≡ o → memb t (listedIn o) ≡ true → IsListed b w t
       by none z q = unlike q
       by (some v) z q =
-          let u = value-under truncated v z in
+          let u = value-under b w truncated v z in
           let n = under-numbers v u in
           record { value = v; under = u; list = n; among = memb-among t (n .numbers) (rw (numbers-back v n) at q) }
 
   listed-is : IsListed b w t → isListed b w t ≡ true
   unfolding isListed
   listed-is x =
-      rw (under-value truncated (x .value) (x .under), numbers-back (x .value) (x .list))
+      rw (under-value b s w truncated (x .value) (x .under), numbers-back (x .value) (x .list))
       (among-memb t (x .list .numbers) (x .among))
 
   not-listed : isListed b w t ≡ false → IsListed b w t → ⊥

@@ -15,11 +15,11 @@ use Rattle.whole.specs.Number.{numberOf}
 use Rattle.table.specs.Repeat.{memb}
 use Rattle.table.specs.declared.Found.{Found}
 use Rattle.table.specs.declared.Found.the-variants.{At, Nothing}
-use Rattle.entry.specs.Present.{Row, there}
+use Rattle.entry.specs.Present.{there}
 use Rattle.book.specs.Book.{Book, judge}
 use Rattle.book.specs.Read.{bookIn}
 use Rattle.lookup.specs.Look.{columnIn}
-use Rattle.lookup.specs.Named.{tagsUnder, rowFor, hasRecord, startFor}
+use Rattle.lookup.specs.Named.{tagsUnder, valueFor, hasRecord, startFor}
 use Rattle.lookup.specs.declared.Which.{Which}
 use Rattle.lookup.specs.declared.Which.the-variants as which
 use Rattle.reason.specs.declared.Reason.{Reason}
@@ -33,16 +33,6 @@ upper t = t / 65536
 abbrev pub uppersOf : List ℕ → List ℕ
 uppersOf [] = []
 uppersOf (t ∷ ts) = upper t ∷ uppersOf ts
-
--- ---- the value under a whole tag
-
--- what a row has in the column that was found; nothing where none was
-abbrev pub valueIn : Found → Row → Option (List ℕ)
-valueIn Nothing es = none
-valueIn (At c) es = getD es c none
-
-unfoldable pub valueFor : Book → Which → ℕ → Option (List ℕ)
-valueFor b w t = valueIn (columnIn t (tagsUnder b w)) (rowFor b w)
 
 -- ---- a column of the same upper half under another type
 

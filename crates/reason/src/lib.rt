@@ -2,7 +2,7 @@
 // table, its row and its truncated properties tell. Whole tags are compared, save where another type is looked for.
 use answers::Refusal;
 use book::Judged;
-use entry::Cells;
+use edges::MOST_EDGES;
 use lookup::Which;
 use table::Columns;
 use table::Found;
@@ -14,7 +14,7 @@ ghost use Rattle.answers.specs.Numbers.{mostColumns};
 ghost use Rattle.table.specs.Repeat.{memb};
 ghost use Rattle.lookup.specs.Look.{columnIn};
 ghost use Rattle.reason.specs.Why.{upper, uppersOf, otherType, numbersIn, whyOf};
-ghost use Rattle.reason.specs.Cases.{cutListed, cellWhy, columnsWhy};
+ghost use Rattle.reason.specs.Cases.{cellListed, cellWhy, columnsWhy};
 
 // The truncated properties: a list of numbers, which are whole tags.
 const TRUNCATED: u32 = 0x68051003;
@@ -83,21 +83,21 @@ fn other_type(tags: &[u32], rows: usize, tag: u32) -> Reason
 }
 
 // Whether the truncated properties of a record list the tag.
-fn is_listed(book: &[u8], cells: Cells, tags: &[u32], tag: u32) -> bool
-    ensures { λ r. ⌜ r ≡ cutListed (now (book .entry)) cells (now (tags .entry)) tag ⌝ }
+fn is_listed(book: &[u8], edges: &[usize], tags: &[u32], tag: u32) -> bool
+    ensures { λ r. ⌜ r ≡ cellListed (now (book .entry)) (now (edges .entry)) (now (tags .entry)) tag ⌝ }
 {
     let Found::At(d) = lookup::find_column(tags, TRUNCATED) else {
         return false;
     };
-    holds(entry::cut_cell(book, cells, d), tag)
+    holds(edges::cell(book, edges, d), tag)
 }
 
 // The reply where column c of the record at `at` has the whole tag. A value takes at least one octet.
-fn why_absent(book: &[u8], cells: Cells, tags: &[u32], c: usize, at: usize, tag: u32) -> Reason
+fn why_absent(book: &[u8], edges: &[usize], tags: &[u32], c: usize, at: usize, tag: u32) -> Reason
     requires { ⌜ (c < mostColumns) × (at < 2 ^ 32) ⌝ }
-    ensures { λ r. ⌜ r ≡ cellWhy (now (book .entry)) cells (now (tags .entry)) c at tag ⌝ }
+    ensures { λ r. ⌜ r ≡ cellWhy (now (book .entry)) (now (edges .entry)) (now (tags .entry)) c at tag ⌝ }
 {
-    let value = entry::cut_cell(book, cells, c);
+    let value = edges::cell(book, edges, c);
     if 0 < value.len() {
         return Reason::Refused(Refusal {
             number: answers::BREAKS_FORM,
@@ -105,7 +105,7 @@ fn why_absent(book: &[u8], cells: Cells, tags: &[u32], c: usize, at: usize, tag:
         });
     }
     let place = at + 4 + c / 8;
-    if is_listed(book, cells, tags, tag) {
+    if is_listed(book, edges, tags, tag) {
         return Reason::Listed(place);
     }
     Reason::NotListed(place)
@@ -123,8 +123,9 @@ fn why_in(book: &[u8], columns: Columns, at: usize, rows: usize, tag: u32) -> Re
     let Found::At(c) = lookup::find_column(&tags[0..n], tag) else {
         return other_type(&tags[0..n], rows, tag);
     };
-    let cells = entry::cells_at(book, at, &forms[0..n]);
-    why_absent(book, cells, &tags[0..n], c, at, tag)
+    let mut edges = [0usize; MOST_EDGES];
+    edges::put_edges(book, at, &forms[0..n], &mut edges);
+    why_absent(book, &edges, &tags[0..n], c, at, tag)
 }
 
 // Why the record has no value under the whole tag.

@@ -4,7 +4,7 @@ use Rattle.reason.proofs.why_in.Statement.{statement}
 use Rattle.reason.proofs.why_in.Tie as tie
 use Rattle.reason.proofs.why_in.Reads as reads
 use Rattle.reason.proofs.why_in.Lts as lts
-use Rattle.entry.proofs.cells_at.Reads as cells-at-reads
+use Rattle.edges.proofs.put_edges.Reads as put-edges-reads
 use Rattle.lookup.proofs.find_column.Reads as find-column-reads
 use Rattle.reason.proofs.other_type.Reads as other-type-reads
 use Rattle.reason.proofs.why_absent.Reads as why-absent-reads
@@ -42,17 +42,23 @@ other-type-requires c κs = search needs
 returns : tie.Need-returns
 returns c = search ins
 
-sub-cells-at : tie.Need-sub-cells-at
-sub-cells-at c = search needs
+sub-put-edges : tie.Need-sub-put-edges
+sub-put-edges c = search needs
 
-part-cells-at-start : tie.Need-part-cells-at-start
-part-cells-at-start c = search needs
+part-put-edges-start : tie.Need-part-put-edges-start
+part-put-edges-start c = search needs
 
-part-cells-at-end : tie.Need-part-cells-at-end
-part-cells-at-end c = search needs
+part-put-edges-end : tie.Need-part-put-edges-end
+part-put-edges-end c = search needs
 
-cells-at-requires : tie.Need-cells-at-requires
-cells-at-requires c κs = search needs
+slice-aggregate-put-edges : tie.Need-slice-aggregate-put-edges
+slice-aggregate-put-edges c = search needs
+
+put-edges-requires : tie.Need-put-edges-requires
+put-edges-requires c κs = search needs
+
+slice-aggregate-why-absent : tie.Need-slice-aggregate-why-absent
+slice-aggregate-why-absent c = search needs
 
 sub-why-absent : tie.Need-sub-why-absent
 sub-why-absent c = search needs
@@ -84,10 +90,12 @@ why-in-spec =
     part-other-type-end
     other-type-requires
     returns
-    sub-cells-at
-    part-cells-at-start
-    part-cells-at-end
-    cells-at-requires
+    sub-put-edges
+    part-put-edges-start
+    part-put-edges-end
+    slice-aggregate-put-edges
+    put-edges-requires
+    slice-aggregate-why-absent
     sub-why-absent
     part-why-absent-start
     part-why-absent-end

@@ -1,0 +1,7 @@
+pub mod Digits
+pub mod Field
+pub mod Marks
+pub mod Reading
+pub mod Back
+pub mod Values
+pub mod One
