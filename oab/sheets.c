@@ -71,8 +71,8 @@ static int refuse_choice(const char *name, const struct choice *chosen)
     size_t i = 0;
     while (i < chosen->count && can_be_exported(chosen->tags[i])) i++;
     if (i < chosen->count)
-        snprintf(words, sizeof words, "column %08" PRIX32 " can't be exported: its type is '%s', and only number, "
-            "yes-or-no, narrow and text can", chosen->tags[i], type_words(chosen->tags[i]));
+        snprintf(words, sizeof words, "column %08" PRIX32 " can't be exported: its type is %s", chosen->tags[i],
+            type_words(chosen->tags[i]));
     else if (chosen->count > WT_MOST_CHOSEN)
         snprintf(words, sizeof words, "%zu columns are chosen, and at most %u can be", chosen->count, WT_MOST_CHOSEN);
     else
