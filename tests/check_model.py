@@ -264,22 +264,6 @@ def check_sheets():
             assert oab.sheet(made.book, tags, 1 << 20) == answer, (made.table, tags)
 
 
-def csv_fields(table, tags):
-    """The fields as another program has them: numbers by Python's own words, strings as they were put in."""
-    columns = [tag for tag, _ in table[1]]
-    for row in table[3]:
-        line = []
-        for tag in tags:
-            value, kind = row[columns.index(tag)], oab.type_of(tag)
-            if value is None:
-                line.append('')
-            elif kind in oab.STRINGS:
-                line.append(value[:-1].decode('latin-1'))
-            else:
-                line.append(str(oab.number_at(value)[0]) if kind == oab.NUMBER else str(int(value != b'\0')))
-        yield line
-
-
 def check_sheets_by_csv():
     """Python's csv reads the fields back, and writes the same text. (It has no octets, so each is one character; one
     empty field alone it reads as no field, and writes in quotes.)"""
@@ -291,7 +275,7 @@ def check_sheets_by_csv():
         if not tags:
             continue
         text = oab.make_sheet(books.octets_of(table), tags).decode('latin-1')
-        want = [[f'{tag:08X}' for tag in tags]] + list(csv_fields(table, tags))
+        want = [[field.decode('latin-1') for field in line] for line in sheets.cells(table, tags)]
         lines = csv.reader(io.StringIO(text, newline=''), strict=True)
         assert [line or [''] for line in lines] == want
         if all(line != [''] for line in want):

@@ -66,6 +66,9 @@ def through_index(path, octets, places):
     differs('find', (0, b'%d\t39FE001F\tlast\n' % (count - 1)), run('find', path, 'last')[:2])
     found = run('find', '-t', 'SmtpAddress', path, '@')
     differs('find in all', (0, count - 1), (found[0], found[1].count(b'\n')))
+    sheet = large.sheet(octets, places, [0x39FE001F])
+    got = run('export', '-t', 'SmtpAddress', '-o', saved, path)
+    differs('export', (0, b'', b'', True), (*got, content(saved) == sheet))
 
 
 def corrected(path, octets, places):

@@ -240,6 +240,26 @@ def chosen():
         yield from part()
 
 
+# ---------------------------------------------------------------- for other readers
+
+def cells(table, tags):
+    """What another program is to find in the sheet of a table, line by line: the tags, then the values themselves."""
+    columns = [tag for tag, _ in table[1]]
+    found = [[b'%08X' % tag for tag in tags]]
+    for row in table[3]:
+        line = []
+        for tag in tags:
+            value, kind = row[columns.index(tag)], oab.type_of(tag)
+            if value is None:
+                line.append(b'')
+            elif kind == oab.NUMBER:
+                line.append(str(oab.number_at(value)[0]).encode())
+            else:
+                line.append(value[:-1] if kind in oab.STRINGS else {b'\0': b'0', b'\1': b'1'}[value])
+        found.append(line)
+    return found
+
+
 # ---------------------------------------------------------------- at random
 
 def some_string(rng, kind, most=8):
