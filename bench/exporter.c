@@ -73,7 +73,7 @@ static void find_values(const uint8_t *record, const struct columns *t, size_t l
 
 static size_t digits_of(uint32_t v) {
     size_t n = 1;
-    for (; 9 < v; v /= 10) n++;
+    for (uint64_t least = 10; least <= v; least *= 10) n++;
     return n;
 }
 
