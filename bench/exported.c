@@ -115,7 +115,7 @@ static void times_of(enum shape shape, int turns) {
 
 void exported(int turns) {
     printf("\nsheets: library / C; made / judged, library and C; best of %d\n", turns);
-    printf("%-24s %7s %8s %7s %7s %7s %7s %7s %9s\n", "shape", "MiB", "records", "columns", "sheet", "lib / C", "library",
-        "C", "ns/octet");
+    printf("%-24s %7s %8s %7s %7s %7s %7s %7s %9s\n", "shape", "MiB", "records", "columns", "sheet", "lib / C",
+        "library", "C", "ns/octet");
     for (enum shape shape = 0; shape < ALL_SHAPES; shape++) times_of(shape, turns);
 }

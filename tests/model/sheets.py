@@ -47,10 +47,10 @@ def plain(tags):
 # Strings that stand as they are; those of UTF-8 may stand in either type.
 AS_THEY_ARE = [
     b'a', b'Ann', b' ', b' a', b'a ', b'  two  blanks  ', b'\t', b'\ta\t', b"'", b'`', b'\\', b';', b':', b'=1+2',
-    b'-1', b'+1', b'@a', b'0', b'00', b'1', b'#', b'!', b'+', b'-', b'.', b'a;b', b'\x01', b'\x08', b'\x0B', b'\x0C', b'\x0E',
-    b'\x1A', b'\x1B[0m', b'\x1F', b'\x7F', 'é'.encode(), 'Ångström'.encode(), '€'.encode(), '漢字'.encode(),
-    '😀'.encode(), '\uFEFFa'.encode(), '\u2028'.encode(), '\x85'.encode(), '\uFFFE'.encode(), '，“”＂'.encode(),
-    'Ĭ¢'.encode(), '\u010A\u010D'.encode(), '\U0010FFFF'.encode(),
+    b'-1', b'+1', b'@a', b'0', b'00', b'1', b'#', b'!', b'+', b'-', b'.', b'a;b', b'\x01', b'\x08', b'\x0B', b'\x0C',
+    b'\x0E', b'\x1A', b'\x1B[0m', b'\x1F', b'\x7F', 'é'.encode(), 'Ångström'.encode(), '€'.encode(),
+    '漢字'.encode(), '😀'.encode(), '\uFEFFa'.encode(), '\u2028'.encode(), '\x85'.encode(), '\uFFFE'.encode(),
+    '，“”＂'.encode(), 'Ĭ¢'.encode(), '\u010A\u010D'.encode(), '\U0010FFFF'.encode(),
 ]
 # Strings that are quoted, and their fields.
 QUOTED = [
