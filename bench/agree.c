@@ -1,8 +1,9 @@
-/* Books of each shape: good, with one octet changed, cut short, corrected at random, and written again. */
+/* Books of each shape: good, with one octet changed, cut short, exported, corrected at random, and written again. */
 #include "agree.h"
 #include "../include/windtrellis.h"
 #include "books.h"
 #include "corrector.h"
+#include "exporter.h"
 #include "indexer.h"
 #include "replay.h"
 #include <stdio.h>
@@ -10,11 +11,13 @@
 #include <string.h>
 
 enum { NUMBERS_MET = 20 };
-static unsigned judged, mended, indexed, differ, met[NUMBERS_MET], answers[NUMBERS_MET], looked[NUMBERS_MET];
+static unsigned judged, mended, indexed, sheets, differ;
+static unsigned met[NUMBERS_MET], answers[NUMBERS_MET], looked[NUMBERS_MET], exported[NUMBERS_MET];
 /* the index of the good book and an old one of it, for all that is made of the book */
 enum { NEW, OLD, KINDS };
 static uint8_t kept[KINDS][OFFSET + WIDTH * 65535];
 static size_t kept_length[KINDS];
+static struct columns kept_columns;
 static uint32_t seed;
 
 static uint32_t chance(uint32_t below) {
@@ -51,6 +54,45 @@ static void compare_indexed(const struct book *b) {
         differ++;
 }
 
+static void keep_tags(const struct book *b) {
+    struct tables t;
+    if (judge_with(b->octets, b->length, &t).number) abort();
+    kept_columns = t.address;
+}
+
+/* tags of the good book, at times one too many, one twice, one of another type or one that it hasn't */
+static size_t some_tags(uint32_t *tags) {
+    size_t count = 0, most = 1 + chance(MOST_CHOSEN + 1);
+    for (size_t i = chance(3); i < kept_columns.count && count < most; i += 1 + chance(2))
+        if (kept_columns.tags[i] % 0x10000 < 0x20 || chance(40) == 0) tags[count++] = kept_columns.tags[i];
+    if (0 < count && count < most && chance(30) == 0) {
+        tags[count] = chance(2) ? tags[0] : 0x3001001F;
+        count++;
+    }
+    return count;
+}
+
+/* the sheet, its length, and every octet of a room that is long enough or a little short */
+static void compare_sheets(const struct book *b) {
+    static uint8_t made[1 << 17], plain[sizeof made];
+    uint32_t tags[MOST_CHOSEN + 1], number;
+    size_t count = some_tags(tags), n, room;
+    wt_length length;
+    struct refusal r = plain_sheet_length(b->octets, b->length, tags, count, &n);
+    number = wt_sheet_length(b->octets, b->length, tags, count, &length);
+    if (number != r.number || length.place != (number ? r.place : 0) || length.length != n) differ++;
+    room = n + chance(20) - (n ? chance(8) : 0);
+    if (sizeof made < room) room = sizeof made;
+    memset(made, 0xA5, room);
+    memset(plain, 0xA5, room);
+    r = plain_sheet(b->octets, b->length, tags, count, plain, room, &n);
+    number = wt_sheet(b->octets, b->length, tags, count, made, room, &length);
+    sheets++;
+    exported[number]++;
+    if (number != r.number || length.place != (number ? r.place : 0) || length.length != n || memcmp(made, plain, room))
+        differ++;
+}
+
 static void compare(const struct book *b) {
     wt_judged out;
     wt_found found;
@@ -64,6 +106,7 @@ static void compare(const struct book *b) {
     int there = wt_lookup(b->octets, b->length, k, b->tag, &found) == WT_DONE && found.present;
     if (there != (s.end != 0) || (there && (found.start != s.start || found.end != s.end))) differ++;
     compare_indexed(b);
+    compare_sheets(b);
 }
 
 /* one octet changed, with and without a serial that fits */
@@ -179,11 +222,13 @@ static void say(const char *what, unsigned tried, const unsigned *met_by) {
 }
 
 int agree(void) {
-    for (enum shape s = 0; s < SHAPES; s++) {
+    for (enum shape s = 0; s < ALL_SHAPES; s++) {
         struct book b = make_book(s, 20000);
         seed = 1 + s;
         keep_indexes(&b);
+        keep_tags(&b);
         compare(&b);
+        for (int t = 0; t < 300; t++) compare_sheets(&b);
         damage(&b);
         cut(&b);
         correct(&b);
@@ -192,7 +237,8 @@ int agree(void) {
     }
     say("books judged and looked up", judged, met);
     say("indexes made, and lookups through that of the good book, new and old", indexed, looked);
+    say("sheets made", sheets, exported);
     say("corrections", mended, answers);
-    printf("%d books written again; %u differ\n", SHAPES, differ);
+    printf("%d books written again; %u differ\n", ALL_SHAPES, differ);
     return differ != 0;
 }

@@ -3,6 +3,7 @@
 #include "agree.h"
 #include "books.h"
 #include "corrector.h"
+#include "exported.h"
 #include "indexed.h"
 #include "replay.h"
 #include <stdio.h>
@@ -273,6 +274,8 @@ static void serials(void) {
 int main(int argc, char **argv) {
     if (1 < argc) turns = atoi(argv[1]);
     if (agree()) return 1;
+    exported(turns);
+    if (2 < argc && strcmp(argv[2], "sheets") == 0) return 0;
     serials();
     indexed(turns);
     printf("\nlibrary / plain C with a table-driven serial; walks: judge without the serial, on both sides\n%-24s %7s %8s", "shape", "MiB", "records");

@@ -4,9 +4,10 @@
 #include <stdlib.h>
 #include <string.h>
 
-const char *shape_names[SHAPES] = {
+const char *shape_names[ALL_SHAPES] = {
     "36 columns, 20 present", "one narrow string", "one ASCII string", "one mixed UTF-8 string",
     "one binary value",       "one list of numbers", "128 booleans",     "no columns",
+    "16 numbers",             "16 strings of marks",
 };
 
 static uint64_t seed;
@@ -143,6 +144,40 @@ static void header_record(void) {
     put32(start, (uint32_t)(at - start));
 }
 
+/* a number of every size, or a string in which every other octet or so is a mark */
+static void cell(enum shape shape) {
+    if (shape == COUNTS) {
+        number(chance(2) ? chance(200) : chance(2) ? chance(1u << 17) : chance(UINT32_MAX));
+        return;
+    }
+    for (uint32_t n = 4 + chance(12); 0 < n; n--)
+        if (chance(2)) letters(1);
+        else put((uint8_t)("\"\"\",\r\n"[chance(6)]));
+    put(0);
+}
+
+static uint32_t cell_tag(enum shape shape, uint32_t i) {
+    return (0x3000 + i) << 16 | (shape == COUNTS ? 0x0003 : 0x001F - i % 2);
+}
+
+/* sixteen columns, fifteen of them present in a record; how many records */
+static size_t sixteen(enum shape shape, size_t length) {
+    size_t records = 0;
+    head(16);
+    for (uint32_t i = 0; i < 16; i++) word32(cell_tag(shape, i)), word32(0);
+    header_record();
+    for (; at + 6 + 16 * 17 <= length && records < 65535; records++) {
+        size_t start = at, without = records % 16;
+        word32(0);
+        put(without < 8 ? (uint8_t)(0xFF ^ 0x80 >> without) : 0xFF);
+        put(without < 8 ? 0xFF : (uint8_t)(0xFF ^ 0x80 >> (without - 8)));
+        for (size_t i = 0; i < 16; i++)
+            if (i != without) cell(shape);
+        put32(start, (uint32_t)(at - start));
+    }
+    return records;
+}
+
 /* one record with one value of `size` octets, or a little less */
 static void one_value(enum shape shape, size_t size) {
     size_t start = at, end = at + size;
@@ -210,6 +245,11 @@ struct book make_book(enum shape shape, size_t length) {
         head(0);
         header_record();
         while (at + 4 <= length && b.records < 65535) word32(4), b.records++;
+        break;
+    case COUNTS:
+    case QUOTES:
+        b.records = sixteen(shape, length);
+        b.tag = cell_tag(shape, b.records % 16 == 0 ? 14 : 15);
         break;
     default: {
         static const uint16_t type[SHAPES] = {0, 0x001E, 0x001F, 0x001F, 0x0102, 0x1003, 0, 0};

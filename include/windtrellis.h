@@ -1,6 +1,6 @@
-/* Windtrellis: offline address books (OAB version 4 full details files), judged, looked up, written and corrected.
- * Every call below is proved to meet its contract (crates/face_reading, face_reason, face_index, face_correcting,
- * face_writing); docs/CONTRACTS.md says each in a sentence.
+/* Windtrellis: offline address books (OAB version 4 full details files), judged, looked up, exported, written and
+ * corrected. Every call below is proved to meet its contract (crates/face_reading, face_reason, face_index, face_sheet,
+ * face_correcting, face_writing); docs/CONTRACTS.md says each in a sentence.
  *
  * Answers. A call takes any octets and any numbers, ends, and answers WT_DONE or the number of its refusal. What there
  * is to say stands in the one small struct that is lent for it, whose first number is the refusal's place, 0 where the
@@ -35,7 +35,7 @@ extern "C" {
 
 /* 10,000 for each version, 100 for each change that adds calls, 1 for each other one. wt_version answers that of the
  * library which the program runs with. */
-#define WT_VERSION 10200u
+#define WT_VERSION 10300u
 uint32_t wt_version(void);
 
 /* Answers. */
@@ -59,7 +59,8 @@ enum {
     WT_OUT_OF_TURN = 15,   /* out of turn; no such record or column; a stated length over the buffer */
     WT_BREAKS_RULE = 16,   /* the result would break a rule on keys, count or length */
     WT_NO_ROOM = 17,       /* the buffer is too short for the result */
-    WT_BREAKS_FORM = 18,   /* an offered value or record breaks its form; in wt_why: the value is present */
+    WT_BREAKS_FORM = 18,   /* an offered value or record breaks its form; in wt_why: the value is present; of a sheet:
+                            * a column that can't be exported, a tag chosen twice, none or over 16 */
     WT_WRONG_INDEX = 19    /* an index that isn't the book's, or whose entry for the record lies outside it */
 };
 
@@ -151,6 +152,27 @@ uint32_t wt_index_entry(const uint8_t *book, size_t octets, const uint8_t *index
     wt_start *WT_RESTRICT out);
 uint32_t wt_lookup_indexed(const uint8_t *book, size_t octets, const uint8_t *index, size_t index_octets, uint64_t k,
     uint32_t tag, wt_found *WT_RESTRICT out);
+
+/* ---- a sheet: chosen columns of the address records as comma-separated text (RFC 4180), for a spreadsheet. The first
+ * line has the tags as eight upper-case hex digits each; then each record is a line with a field for each tag, in the
+ * order in which they are chosen. Fields are parted by commas; every line ends in CR LF, the last too. A number is
+ * decimal without leading zeros, a boolean 0 or 1, a string (001E, 001F) its octets without the 00, whatever they are,
+ * quoted exactly where they hold a comma, a quote, CR or LF, with each quote inside doubled. An absent value is an
+ * empty field. No two different choices of values give the same text for the same tags.
+ *
+ * Refusals: the book's own; then 15 where any tag isn't that of an address column, the whole tag; then 18 where any is
+ * of another type than 0003, 000B, 001E and 001F, where a tag is chosen twice, and where none is chosen or over
+ * WT_MOST_CHOSEN; then 17, in wt_sheet alone. */
+#define WT_MOST_CHOSEN 16u
+
+/* How many octets the sheet has. */
+uint32_t wt_sheet_length(const uint8_t *book, size_t octets, const uint32_t *tags, size_t tag_count,
+    wt_length *WT_RESTRICT out);
+
+/* The sheet in the front of the text, and its length; octets of the text behind it stay. Room: what wt_sheet_length
+ * answers is enough, and what it takes. It may be longer than the book. */
+uint32_t wt_sheet(const uint8_t *book, size_t octets, const uint32_t *tags, size_t tag_count,
+    uint8_t *WT_RESTRICT text, size_t room, wt_length *WT_RESTRICT out);
 
 /* ---- correcting: a book of `length` octets stands at the front of a buffer of `octets`. Done: the struct has the new
  * length; octets from the new length up to the old are zero, those behind both stay. Refusals: 15 for a length over the

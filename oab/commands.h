@@ -15,7 +15,8 @@ struct command {
     unsigned options;
     const char *out;   /* -o: where the result goes, or null */
     const char *index; /* --index: where the saved index is, or null */
-    const char *tag;   /* -t, or null */
+    char **tags;       /* of each -t, as it was written */
+    size_t tag_count;
     FILE *to;          /* where lines are printed */
 };
 
@@ -39,6 +40,7 @@ int run_show(const struct command *c);
 int run_get(const struct command *c);
 int run_find(const struct command *c);
 int run_why(const struct command *c);
+int run_export(const struct command *c);
 int run_index(const struct command *c);
 int run_extract(const struct command *c);
 int run_set(const struct command *c);

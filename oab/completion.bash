@@ -1,5 +1,5 @@
 # Completion of oab's commands, options, records and names of tags for bash.
-_oab_commands="check list columns show get find why index set clear insert delete extract apply"
+_oab_commands="check list columns show get find why export index set clear insert delete extract apply"
 _oab_names="
     OfflineAddressBookName OfflineAddressBookDistinguishedName OfflineAddressBookSequence
     OfflineAddressBookContainerGuid AddressBookHierarchicalRootDepartment EmailAddress SmtpAddress DisplayName
@@ -35,13 +35,16 @@ _oab() {
     show) options="$all --json --names --index" ;;
     get) options="$all --json --raw -e --index" ;;
     find) options="$all --json --names -i -t" ;;
+    export) options="$all -t" ;;
     set) options="$all --raw -n" ;;
     clear | insert | delete | apply | index) options="$all -n" ;;
     extract) options=$all ;;
     *) options="--help --version" ;;
     esac
     if [ "$before" = -t ]; then
-        mapfile -t COMPREPLY < <(compgen -W "$_oab_names" -- "$word")
+        local earlier=''
+        [[ $word != *,* ]] || earlier=${word%,*},
+        mapfile -t COMPREPLY < <(compgen -P "$earlier" -W "$_oab_names" -- "${word##*,}")
     elif [ "$before" = -o ] || [ "$before" = --index ]; then
         compopt -o filenames
         mapfile -t COMPREPLY < <(compgen -f -- "$word")

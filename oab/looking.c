@@ -342,15 +342,15 @@ static int read_search(struct search *f)
     const char *word = f->c->words[1];
     int spelled = unspell(&f->text, word);
     f->alike = (f->c->options & ALIKE) != 0;
-    f->tagged = f->c->tag != NULL;
+    f->tagged = f->c->tag_count != 0;
     if (spelled < 0) return fail(f->c->name, "%s", strerror(errno));
     if (spelled == 0)
         return fail(word, "is spelled wrong: \\\\ is a backslash, \\xNN is an octet, nothing else starts with one");
     if (f->text.length && memchr(f->text.at, 0, f->text.length)) return fail(word, "has an octet 00, and no text has");
     if (f->alike) make_small(f->text.at, f->text.length);
     if (!f->tagged) return DONE;
-    if (word_tag(f->c->tag, &f->tag) != DONE) return FAILED;
-    return is_text(f->tag) ? DONE : fail(f->c->tag, "its values are no text");
+    if (word_tag(f->c->tags[0], &f->tag) != DONE) return FAILED;
+    return is_text(f->tag) ? DONE : fail(f->c->tags[0], "its values are no text");
 }
 
 static int has_column(const struct indexed *x, uint32_t tag)

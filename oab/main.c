@@ -43,6 +43,12 @@ static const struct entry {
         "    absent PLACE          the value is absent, and the record doesn't\n"
         "PLACE is that of the column's row, or of the octet with the presence bit. A value that is there: refused, 18.",
         run_why, 3, 3, OUT | QUIET | JSON | NAMES },
+    { "export", "-t TAG,.. BOOK",
+        "A sheet for a spreadsheet: 1 to 16 columns of the address records as comma-separated text (RFC 4180). The\n"
+        "first line has the tags, then each record is a line; lines end in CR LF. Numbers are decimal, booleans 0 or\n"
+        "1; strings stand octet by octet, quoted where they hold a comma, a quote, CR or LF; an absent value is an\n"
+        "empty field. Only columns of the types number, yes-or-no, narrow and text can be exported.",
+        run_export, 1, 1, OUT | QUIET | TAG },
     { "index", "BOOK",
         "The book's index, saved as BOOK.index or where -o says. With it get and show look a record up without\n"
         "judging the others. When the book has changed it is made anew: an index that isn't the book's is refused.",
@@ -89,10 +95,13 @@ enum { OPTIONS = sizeof options / sizeof *options };
 
 static void describe(FILE *to, const struct entry *e)
 {
+    unsigned shown = e->options & ~(e->run == run_export ? (unsigned)TAG : 0u);
     size_t i;
     fprintf(to, "usage: oab %s [OPTION..] %s\n\n%s\n\n", e->name, e->takes, e->says);
     for (i = 0; i < OPTIONS; i++)
-        if (e->options & options[i].bit) fprintf(to, "  %-12s  %s\n", options[i].word, options[i].says);
+        if (shown & options[i].bit) fprintf(to, "  %-12s  %s\n", options[i].word, options[i].says);
+    if (e->run == run_export)
+        fprintf(to, "  %-12s  %s\n", "-t TAG,..", "the columns, in this order; those of a second -t follow them");
     if (e->options & DRY && e->run != run_index)
         fputs("\nThe book is corrected where it stands: a new file beside it is synced and renamed over it. A refusal\n"
               "leaves it as it is.\n", to);
@@ -106,7 +115,7 @@ static void describe_all(FILE *to)
 {
     size_t i;
     fputs("usage: oab COMMAND [OPTION..] ..\n\n"
-          "Offline address books (version 4 full details files): judged, looked up, corrected.\n\n", to);
+          "Offline address books (version 4 full details files): judged, looked up, exported, corrected.\n\n", to);
     for (i = 0; i < COMMANDS; i++) fprintf(to, "  oab %s %s\n", commands[i].name, commands[i].takes);
     fputs("\n'oab COMMAND --help' says more, 'oab --version' which one this is.\n"
           "Exit status: 0 done, 1 refused or nothing found, 2 usage or system error, 3 absent, with -e.\n", to);
@@ -145,8 +154,8 @@ static unsigned flags_in(const char *word)
 /* Options that the next word belongs to: where it is kept, and their bit. */
 static const char **taken_by(struct command *c, const char *word, unsigned *bit)
 {
-    *bit = strcmp(word, "-o") == 0 ? OUT : strcmp(word, "-t") == 0 ? TAG : strcmp(word, "--index") == 0 ? INDEX : 0;
-    return *bit == OUT ? &c->out : *bit == TAG ? &c->tag : *bit == INDEX ? &c->index : NULL;
+    *bit = strcmp(word, "-o") == 0 ? OUT : strcmp(word, "--index") == 0 ? INDEX : 0;
+    return *bit == OUT ? &c->out : *bit == INDEX ? &c->index : NULL;
 }
 
 /* Options are taken out of the words, up to --. */
@@ -160,9 +169,13 @@ static int take_options(struct command *c, int argc, char **argv)
             c->words[c->count++] = argv[i];
         } else if (strcmp(argv[i], "--") == 0) {
             data = 1;
+        } else if (strcmp(argv[i], "-t") == 0) {
+            if (++i == argc) return fail("-t", "the tag is missing");
+            c->tags[c->tag_count++] = argv[i];
+            c->options |= TAG;
         } else if ((word = taken_by(c, argv[i], &bits)) != NULL) {
             if (*word) return fail(argv[i], "is given twice");
-            if (++i == argc) return fail(argv[i - 1], "the %s is missing", bits == TAG ? "tag" : "file");
+            if (++i == argc) return fail(argv[i - 1], "the file is missing");
             *word = argv[i];
             c->options |= bits;
         } else if ((bits = flags_in(argv[i])) != 0) {
@@ -181,9 +194,11 @@ static int fits(const struct command *c, const struct entry *e)
         if (c->options & options[i].bit & ~e->options) return fail(options[i].word, "is no option of %s", e->name);
     if (c->options & JSON && c->options & RAW) return fail("--raw", "can't be had with --json");
     if (c->options & JSON && c->options & NAMES) return fail("--names", "can't be had with --json, which has both");
-    if (c->count < e->least || c->count > e->most) {
+    if (c->tag_count > 1 && e->run != run_export) return fail("-t", "is given twice");
+    if (c->count < e->least || c->count > e->most || (e->run == run_export && c->tag_count == 0)) {
         if (c->count > e->most) fail(c->words[e->most], "is one word too many");
-        else fail(e->name, "a word is missing");
+        else if (c->count < e->least) fail(e->name, "a word is missing");
+        else fail(e->name, "-t is missing: it names the columns");
         describe(stderr, e);
         return FAILED;
     }
@@ -196,7 +211,7 @@ static int run(struct command *c, const struct entry *e)
 {
     char *text = NULL;
     size_t n = 0;
-    int octets = e->options & DRY || c->options & RAW || e->run == run_extract;
+    int octets = e->options & DRY || c->options & RAW || e->run == run_extract || e->run == run_export;
     int lines = c->out && strcmp(c->out, "-") != 0 && !octets, result, closed;
     c->to = lines ? open_memstream(&text, &n) : stdout;
     if (!c->to) return fail(e->name, "%s", strerror(errno));
@@ -241,16 +256,18 @@ static int choose(struct command *c)
 int main(int argc, char **argv)
 {
     struct command c = { 0 };
-    char **words = calloc((size_t)argc + 1, sizeof *words);
+    char **words = calloc((size_t)argc + 1, sizeof *words), **tags = calloc((size_t)argc + 1, sizeof *tags);
     int result;
     keep_standard_files();
     mind_signals();
-    result = words ? DONE : fail("oab", "%s", strerror(errno));
+    result = words && tags ? DONE : fail("oab", "%s", strerror(errno));
     c.words = words;
+    c.tags = tags;
     if (result == DONE) result = take_options(&c, argc, argv);
     if (result == DONE) result = choose(&c);
     if (fflush(stdout) != 0 || ferror(stdout))
         result = fail("standard output", "can't be written: %s", strerror(errno));
     free(words);
+    free(tags);
     return result;
 }

@@ -6,6 +6,8 @@ of document 000, document 01's own cases, other programs for serial and UTF-8, a
 put into books on purpose, whose refusals are known before anything is judged.
 """
 
+import csv
+import io
 import itertools
 import random
 import sys
@@ -14,7 +16,7 @@ import zlib
 sys.dont_write_bytecode = True
 
 import make
-from model import books, indexes, oab, reasons
+from model import books, indexes, oab, reasons, sheets
 
 
 def check_serial():
@@ -237,6 +239,65 @@ def check_old_limit():
         oab.OLD_LIMIT = limit
 
 
+def check_sheets():
+    """By hand, from document 02 and RFC 4180; then every choice whose sheet or refusal is known by how it was made."""
+    small, sample, room = books.small_book(), books.sample_book(), books.octets_of(books.MAILROOM_TABLE)
+    unit = '/o=example/ou=Exchange Administrative Group (FYDIBOHF23SPDLT)/cn=Recipients/cn='
+    for book, tags, sheet in (
+            (small, [0x39FE001F, 0x3001001F], '39FE001F,3001001F\r\nb@c,\r\n'),
+            (small, [0x3001001F], '3001001F\r\n\r\n'),
+            (sample, [0x0FFE0003, 0x39FE001F, 0x39000003, 0x3003001E], '0FFE0003,39FE001F,39000003,3003001E\r\n'
+             f'6,LisaM@example.com,0,{unit}Lisa Miller\r\n6,Administrator@example.com,0,{unit}Administrator\r\n'),
+            (room, [0x3A40000B, 0x3001001F, 0x39000003], '3A40000B,3001001F,39000003\r\n1,"Miller, Lisa",0\r\n'
+             '0,"Joe ""Lee"" Ray",256\r\n,"Front\r\ndesk",4294967295\r\n,,\r\n')):
+        assert oab.sheet(book, tags, len(sheet)) == ('made', sheet.encode())
+        assert oab.sheet_length(book, tags) == ('made', len(sheet))
+        assert oab.sheet(book, tags, len(sheet) - 1) == ('refused', 17, 0)
+        for damaged in (book[:-1], books.mended(book[:8] + b'\0\0\0\0' + book[12:])):
+            for choice in (tags, [], [0], tags + tags):
+                assert oab.sheet(damaged, choice, 0) == oab.sheet_length(damaged, choice) == oab.judge(damaged)
+    for tags, number in (([], 18), ([0x800F101F], 18), ([0x39FE001F] * 2, 18), ([0x39FE001F] * 17, 18), ([0], 15),
+                         ([0x800F101F, 0], 15), ([0, 0], 15), ([0x39FE001F] * 16 + [0x6800001F], 15)):
+        assert oab.sheet(small, tags, 0) == oab.sheet_length(small, tags) == ('refused', number, 0)
+    for made in sheets.chosen():
+        for tags, answer in made.asked:
+            assert oab.sheet(made.book, tags, 1 << 20) == answer, (made.table, tags)
+
+
+def check_sheets_by_csv():
+    """Python's csv reads the fields back, and writes the same text. (It has no octets, so each is one character; one
+    empty field alone it reads as no field, and writes in quotes.)"""
+    rng = random.Random(7)
+    tables = [made.table for made in sheets.chosen()] + [books.MAILROOM_TABLE]
+    tables += [sheets.spiced(rng, books.some_table(rng)) for _ in range(300)]
+    for table in tables:
+        tags = sheets.some_choice(rng, table)
+        if not tags:
+            continue
+        text = oab.make_sheet(books.octets_of(table), tags).decode('latin-1')
+        want = [[field.decode('latin-1') for field in line] for line in sheets.cells(table, tags)]
+        lines = csv.reader(io.StringIO(text, newline=''), strict=True)
+        assert [line or [''] for line in lines] == want
+        if all(line != [''] for line in want):
+            made = io.StringIO(newline='')
+            csv.writer(made).writerows(want)
+            assert made.getvalue() == text
+
+
+def check_sheets_differ():
+    """No two different choices of values give the same text: all tables of few values, and of strings of marks."""
+    strings = [None] + [bytes(s) + b'\0' for n in (1, 2) for s in itertools.product(b',"\r\na', repeat=n)]
+    numbers = [None] + [oab.encode_number(n) for n in (0, 1, 10, 11, 100)]
+    for columns, values in (([sheets.NAME], [strings]), ([sheets.NAME, sheets.NARROW], [strings, strings]),
+                            ([sheets.NUMBER, sheets.TRUTH], [numbers, [None, b'\0', b'\1']])):
+        rows = list(itertools.product(*values))
+        lines = {oab.sheet_line([oab.sheet_field(tag, v) for tag, v in zip(columns, row)]) for row in rows}
+        assert len(lines) == len(rows)
+    small = list(itertools.product(strings[:12], repeat=1)) + list(itertools.product(strings[:12], repeat=2))
+    texts = {b''.join(oab.sheet_line([oab.sheet_field(sheets.NAME, v)]) for v in rows) for rows in small}
+    assert len(texts) == len(small)
+
+
 def check_writing():
     """The calls lay down the same octets as the book written at once."""
     rng = random.Random(5)
@@ -290,7 +351,7 @@ def check_length_limit():
 
 if __name__ == '__main__':
     for check in (check_serial, check_document_cases, check_numbers, check_utf8, check_books, check_refusals,
-                  check_reasons, check_reasons_and_lookups, check_indexes, check_old_limit, check_writing,
-                  check_count_limit, check_length_limit):
+                  check_reasons, check_reasons_and_lookups, check_indexes, check_old_limit, check_sheets,
+                  check_sheets_by_csv, check_sheets_differ, check_writing, check_count_limit, check_length_limit):
         check()
     print('the model holds')

@@ -3,8 +3,8 @@
 Run from the top: python3 tests/face_against_model.py [SEED]. The library is that of `make shared`; where the
 environment says LIBRARY='a.o b.o ..', it is one linked of these objects, as for a machine that the kit doesn't compile
 for. The calls are those of make.py's streams made anew with other seeds: judging and columns, lookups, reasons,
-indexes, writings, corrections; then serials of any octets. Each is made on the model and on the library, from the same
-octets.
+indexes, sheets, writings, corrections; then serials of any octets. Each is made on the model and on the library, from
+the same octets.
 Writings also get another buffer between the calls: larger, smaller, elsewhere. Ends with "N calls, 0 differ".
 """
 
@@ -19,7 +19,7 @@ from pathlib import Path
 sys.dont_write_bytecode = True
 
 import make
-from model import books, indexes, oab, reasons
+from model import books, indexes, oab, reasons, sheets
 
 TOP = Path(__file__).resolve().parent.parent
 SHIM = 0xA5A5A5A5A5A5A5A5       # what the numbers of a struct are before a call
@@ -248,6 +248,57 @@ def read_indexed(stream, rng):
     stream.ask(long, indexes.own(book), 0, 0)
 
 
+# ---- sheets: make.py's stream, each call made on the library, too
+
+class FaceSheet(make.SheetStream):
+    def __init__(self, library):
+        super().__init__()
+        self.lib = library
+
+    def add(self, payload, line):
+        """Nothing is stored, so books and choices of any length may come."""
+
+    def length(self, book, tags):
+        want = super().length(book, tags)
+        out = Length()
+        answer = self.lib.wt_sheet_length(*octets(book), *words(tags), ctypes.byref(out))
+        model = (0, [0, want[1]]) if want[0] == 'made' else (want[1], refused(out, want[2]))
+        compare(('sheet length', tags), model, (answer, out.list()))
+        return want
+
+    def export(self, book, tags, room):
+        want = super().export(book, tags, room)
+        lent, size = octets(b'\xA5' * room)
+        out = Length()
+        answer = self.lib.wt_sheet(*octets(book), *words(tags), lent, size, ctypes.byref(out))
+        made = want[1] if want[0] == 'made' else b''
+        model = (0, [0, len(made)]) if made else (want[1], refused(out, want[2]))
+        after = made + b'\xA5' * (room - len(made))
+        compare(('sheet', tags, room), model + (after,), (answer, out.list(), bytes(lent)[:room]))
+        return want
+
+
+def export(stream, rng):
+    """make.py's sheets; choices of up to some hundred tags, octets that are no book, a book that is too long."""
+    make.sheet_purpose(stream)
+    make.sheet_every_room(stream)
+    make.sheet_random(stream, rng, 250)
+    make.sheet_damaged(stream, rng)
+    make.sheet_long(stream)
+    for table in make.wide_tables(rng, 2):
+        book, tags = books.octets_of(table), [tag for tag, _ in table[1]] or [0]
+        for choice in (tags, tags * 3, tags[:16], tags[:17], tags[::-1][:5], tags + [0], [tags[-1]] * 300):
+            answer = stream.length(book, choice)
+            stream.export(book, choice, answer[1] + rng.randrange(-1, 3) if answer[0] == 'made' else 50)
+    for length in (0, 1, 11, 12, 100):
+        for choice in ([], [0], [rng.getrandbits(32)] * 20):
+            stream.length(rng.randbytes(length), choice)
+            stream.export(rng.randbytes(length), choice, 9)
+    small = books.small_book()
+    for choice in ([sheets.MAIL], [], [0]):
+        stream.export(small + bytes(oab.LIMIT + 1 - len(small)), choice, 100)
+
+
 # ---- writings: make.py's stream, each call made on the library, too
 
 class FaceWriting(make.WritingStream):
@@ -406,6 +457,7 @@ def main():
     read(face, rng)
     give_reasons(face, rng)
     read_indexed(FaceIndex(library), rng)
+    export(FaceSheet(library), rng)
     stream = FaceWriting(library)
     make.writing_begins(stream, rng)
     make.writing_refusals(stream, rng)

@@ -1,6 +1,6 @@
 """The calls for C programs at the limits of length: a book of 268,435,456 octets is judged, looked up in, asked why
-there is no value, written and corrected, and with one octet more each call has its published refusal and changes
-nothing. An old index is read beside 16,777,216 octets and not beside one more.
+there is no value, exported, written and corrected, and with one octet more each call has its published refusal and
+changes nothing. An old index is read beside 16,777,216 octets and not beside one more.
 
 Run from the top: python3 tests/face_at_limit.py. The library is that of face_against_model.py. What is expected is by
 hand (tests/model/large.py), since the model would take minutes. Ends with "N calls, 0 differ".
@@ -74,6 +74,44 @@ def read(lib):
         reasoned(lib, book, last, refusal)
 
 
+def exported(lib, book, tags, sheet, refusal, rooms=(0, 9, -1)):
+    """The length, then the sheet in exactly its octets, in some more and in one less, which is 17."""
+    number, place = refusal or (0, 0)
+    out = Length()
+    answer = lib.wt_sheet_length(*lent(book), *words(tags), ctypes.byref(out))
+    compare(('sheet length', len(book), len(tags)), (number, [place, 0 if refusal else len(sheet)]),
+            (answer, out.list()))
+    for more in rooms:
+        text, out = bytearray(b'\xA5') * (len(sheet) + more), Length()
+        short = not refusal and more < 0
+        answer = lib.wt_sheet(*lent(book), *words(tags), *lent(text), ctypes.byref(out))
+        numbers = [0, len(sheet)] if not refusal and not short else refused(out, place)
+        done = numbers[1]
+        same = text.startswith(sheet) if done else True
+        behind = text.count(b'\xA5', done) == len(text) - done
+        compare(('sheet', len(book), len(tags), more), (17 if short else number, numbers, True, True),
+                (answer, out.list(), same, behind))
+
+
+def export(lib):
+    """Some columns of many records; sixteen columns of 65,535 records; quotes, whose sheet is twice as long as the
+    book."""
+    for size in (OLD_LIMIT, oab.LIMIT, oab.LIMIT + 1):
+        book, places = large.book(size)
+        refusal = (1, 0) if size > oab.LIMIT else None
+        exported(lib, book, [SMTP], large.sheet(book, places, [SMTP]), refusal)
+        if size != oab.LIMIT:
+            exported(lib, book, [NAME, SMTP], large.sheet(book, places, [NAME, SMTP]), refusal)
+        for tags, number in (([0, SMTP, SMTP], 15), ([SMTP] * 17, 18), ([], 18), ([NAME, NAME], 18)):
+            text, out = bytearray(b'\xA5' * 64), Length()
+            answer = lib.wt_sheet(*lent(book), *words(tags), *lent(text), ctypes.byref(out))
+            compare(('sheet', size, tags), (refusal[0] if refusal else number, [0, 0], True),
+                    (answer, out.list(), text == b'\xA5' * 64))
+    exported(lib, *large.sixteen(oab.LIMIT), None, (9, -1))
+    book, count = large.one_string(oab.LIMIT, b'"')
+    exported(lib, book, [NAME], b'3001001F\r\n"' + b'""' * count + b'"\r\n', None, (0, -1))
+
+
 def correct(lib, call, book, length, words_of, refusal, want):
     """One correction in a buffer of its own; a refused one leaves every octet."""
     buffer, out = bytearray(book), Length()
@@ -131,6 +169,7 @@ def written(lib):
 def main():
     lib = face.load()
     read(lib)
+    export(lib)
     corrections(lib)
     written(lib)
     print(f'{face.calls} calls at the limits of length, {face.differ} differ')

@@ -19,7 +19,7 @@ from pathlib import Path
 
 sys.dont_write_bytecode = True
 
-from model import books, indexes, oab, reasons
+from model import books, indexes, oab, reasons, sheets
 
 TOP = Path(__file__).resolve().parent.parent
 HEADER_RECORD = 0xFFFFFFFF      # stands for the header record where a record is named
@@ -791,6 +791,154 @@ def make_index():
     stream.save(1_000_000, 1_000_000)
 
 
+# ---------------------------------------------------------------- sheet_cases
+
+class SheetStream(Stream):
+    """Sheets of a book, asked of the model as the cases are added.
+
+    Payload, first octet:
+      0 a book                                   "book"
+      1 tags of 4: the length of the sheet       "made LENGTH" or "refused N P"
+      2 4 room, tags of 4: the sheet, written    the same, a blank, and the hex of all of them (nothing where there
+        in as many octets A5                     are none)
+    """
+
+    def __init__(self):
+        super().__init__('sheet_cases')
+        self.book = None
+        self.answers = Counter()
+
+    def lend(self, book):
+        if book != self.book:
+            self.book = book
+            self.add(b'\0' + book, 'book')
+
+    def count(self, call, answer):
+        self.answers[f'{call} {answer[0]}' + (f' {answer[1]}' if answer[0] == 'refused' else '')] += 1
+
+    def length(self, book, tags):
+        self.lend(book)
+        answer = oab.sheet_length(book, tags)
+        self.count('length', answer)
+        self.add(b'\1' + b''.join(oab.four(tag) for tag in tags), ' '.join(str(word) for word in answer))
+        return answer
+
+    def export(self, book, tags, room):
+        self.lend(book)
+        answer = oab.sheet(book, tags, room)
+        made = answer[1] if answer[0] == 'made' else b''
+        after = made + b'\xA5' * (room - len(made))
+        words = ('made', len(made)) if made else answer
+        self.count('export', answer)
+        self.add(b'\2' + oab.four(room) + b''.join(oab.four(tag) for tag in tags),
+                 ' '.join(str(word) for word in words) + ' ' + after.hex().upper())
+        return answer
+
+
+def sheet_rooms(stream, book, tags, rooms):
+    """A sheet that can be made: its length, and as many octets of room more or less as are asked for."""
+    length = stream.length(book, tags)[1]
+    for more in rooms:
+        if length + more >= 0:
+            answer = stream.export(book, tags, length + more)
+            assert answer[0] == 'made' if more >= 0 else answer == ('refused', 17, 0)
+
+
+def sheet_purpose(stream):
+    """Every sheet whose lines are known by hand, and every choice that is refused: 15 and 18 come before 17."""
+    for made in sheets.chosen():
+        for i, (tags, want) in enumerate(made.asked):
+            if want[0] == 'refused':
+                assert stream.length(made.book, tags) == want
+                assert stream.export(made.book, tags, (0, 1, 30)[i % 3]) == want
+                continue
+            sheet_rooms(stream, made.book, tags, (0,) if len(want[1]) > 120 else (0, -1, (1, 7, -len(want[1]))[i % 3]))
+            assert oab.sheet(made.book, tags, len(want[1])) == want
+
+
+def sheet_every_room(stream):
+    """Every room from none to three octets more than are needed."""
+    for made in sheets.single_fields():
+        for tags, want in made.asked:
+            for room in range(len(want[1]) + 4):
+                assert stream.export(made.book, tags, room) == (want if room >= len(want[1]) else ('refused', 17, 0))
+
+
+def sheet_random(stream, rng, times):
+    """Random choices of random books: in any order, with something wrong or nothing."""
+    for number in range(times):
+        table = books.some_table(rng, header=rng.choice((0, 1, 3)), records=rng.choice((1, 2, 3, 4)), most=4)
+        table = sheets.spiced(rng, table, 5)
+        book = books.octets_of(table)
+        if number % 6 == 5:
+            book = books.random_damage(book, rng)
+        for wrong in (0, 0, 0.6):
+            tags = sheets.some_choice(rng, table, wrong)
+            answer = stream.length(book, tags)
+            if answer[0] == 'made':
+                sheet_rooms(stream, book, tags, rng.choice(((0,), (0, -1), (1, -1), (5, -answer[1]), (-2, -7, 0))))
+            else:
+                assert stream.export(book, tags, rng.choice((0, 3, 20))) == answer
+
+
+def sheet_damaged(stream, rng):
+    """Damaged books: their own refusal comes before everything that the choice or the room could bring."""
+    for fault in books.FAULTS:
+        for _ in range(5):
+            table = books.some_table(rng, address=rng.choice((1, 2, 3, 9)), most=3)
+            made = books.faulty(table, rng, fault)
+            if made is None:
+                continue
+            tags = [tag for tag, _ in table[1]]
+            for choice in (sheets.some_choice(rng, table), [], [0], tags[:1] * 2, tags, [tags[0]] * 17):
+                assert stream.length(made[0], choice) == ('refused',) + made[1]
+                assert stream.export(made[0], choice, rng.choice((0, 9))) == ('refused',) + made[1]
+    for book, refusal in list(books.proxy_books())[::9]:                   # request 109: the element at fault
+        if refusal:
+            assert stream.export(book, [0], 0) == ('refused',) + refusal
+    for book in books.truncations(books.small_book()):
+        stream.export(book, [sheets.MAIL], 4)
+    for book in rng.sample(list(books.octet_changes(books.small_book(), rng, 3)), 100):
+        stream.export(book, [sheets.MAIL, sheets.NAME], rng.choice((0, 40)))
+
+
+def sheet_long(stream):
+    """Many records, and strings whose quotes make the sheet longer than its book; few of them, since all octets of the
+    room are printed."""
+    many = books.octets_of(([], [(0x3A00000B, 3), (0x39000003, 0)], [],
+                            [[bytes([i % 2]), oab.encode_number(i * 251)] for i in range(1000)]))
+    for tags in ([0x3A00000B], [0x39000003], [0x39000003, 0x3A00000B]):
+        sheet_rooms(stream, many, tags, (0,))
+    quotes = books.octets_of(([], [(sheets.NAME, 0), (sheets.NARROW, 2)], [], [[b'"' * 5000 + b'\0', b'n\0']] * 2))
+    sheet_rooms(stream, quotes, [sheets.NAME], (0, -1))
+    sheet_rooms(stream, quotes, [sheets.NARROW, sheets.NAME], (-20_000,))
+    whole = books.octets_of(([], [(sheets.NAME, 0)], [], [[b'x' * 65_000 + b'\0']]))
+    assert stream.length(whole, [sheets.NAME]) == ('made', 65_012)
+    assert stream.export(whole, [sheets.NAME], 65_536)[0] == 'made'
+    none = books.octets_of(([], [(sheets.NAME, 0)], [], [[None]] * 3000))
+    sheet_rooms(stream, none, [sheets.NAME], (0,))
+
+
+def make_sheets():
+    stream = SheetStream()
+    rng = random.Random(606)
+    for table in (oab.table_of(books.small_book()), oab.table_of(books.sample_book()), books.MANAGER_TABLE,
+                  books.DESK_TABLE, books.MAILROOM_TABLE):
+        for _ in range(6):
+            sheet_rooms(stream, books.octets_of(table), sheets.some_choice(rng, table), (0, -1, 1))
+    sheet_purpose(stream)
+    sheet_every_room(stream)
+    sheet_random(stream, rng, 300)
+    for table in wide_tables(rng, 1):
+        if table[1]:
+            for wrong in (0, 0, 0.6):
+                stream.export(books.octets_of(table), sheets.some_choice(rng, table, wrong), 400)
+    sheet_damaged(stream, rng)
+    sheet_long(stream)
+    print('sheet_cases:', dict(sorted(stream.answers.items())), file=sys.stderr)
+    stream.save(1_000_000, 1_000_000)
+
+
 # ---------------------------------------------------------------- writing_cases
 
 class WritingStream(Stream):
@@ -1517,7 +1665,8 @@ def make_examples():
     folder.mkdir(parents=True, exist_ok=True)
     for name, book in (('small', books.small_book()), ('sample', books.sample_book()),
                        ('manager', books.octets_of(books.MANAGER_TABLE)),
-                       ('desk', books.octets_of(books.DESK_TABLE))):
+                       ('desk', books.octets_of(books.DESK_TABLE)),
+                       ('mailroom', books.octets_of(books.MAILROOM_TABLE))):
         (folder / f'{name}.book').write_bytes(book)
         (folder / f'{name}.listing').write_text(oab.listing(book))
 
@@ -1528,5 +1677,6 @@ if __name__ == '__main__':
     make_judge()
     make_lookup()
     make_index()
+    make_sheets()
     make_writing()
     make_correcting()

@@ -66,6 +66,9 @@ def through_index(path, octets, places):
     differs('find', (0, b'%d\t39FE001F\tlast\n' % (count - 1)), run('find', path, 'last')[:2])
     found = run('find', '-t', 'SmtpAddress', path, '@')
     differs('find in all', (0, count - 1), (found[0], found[1].count(b'\n')))
+    sheet = large.sheet(octets, places, [0x39FE001F])
+    got = run('export', '-t', 'SmtpAddress', '-o', saved, path)
+    differs('export', (0, b'', b'', True), (*got, content(saved) == sheet))
 
 
 def corrected(path, octets, places):
@@ -114,7 +117,7 @@ def too_long(path, octets, places):
     saved = path.with_suffix('.saved')
     saved.write_bytes(large.index(octets, places))
     for words in (('check', path), ('list', path), ('get', path, 0, '39FE001F'), ('set', path, 0, '39FE001F', 'a'),
-                  ('why', path, 0, '39FE001E'),
+                  ('why', path, 0, '39FE001E'), ('export', '-t', '39FE001F', '-o', path.with_suffix('.new'), path),
                   ('get', '--index', saved, path, 0, '39FE001F'), ('index', '-o', path.with_suffix('.new'), path)):
         got = run(*words)
         differs(('an octet too many', words), (1, b'', True), (*got[:2], got[2].startswith(refusal(path, 1, 0))))

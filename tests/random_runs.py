@@ -17,16 +17,16 @@ import oab_tools
 from oab_tools import TOP
 
 import make
-from model import books, indexes, oab, reasons, spelling
+from model import books, indexes, oab, reasons, sheets, spelling
 from model.names import NAMES
 from oab_apply import line_of
 from oab_spelling import is_safe
 
-COMMANDS = ('check', 'list', 'columns', 'show', 'get', 'find', 'why', 'index', 'set', 'clear', 'insert', 'delete',
-            'extract', 'apply')
+COMMANDS = ('check', 'list', 'columns', 'show', 'get', 'find', 'why', 'export', 'index', 'set', 'clear', 'insert',
+            'delete', 'extract', 'apply')
 OPTIONS = ('-o', '-q', '-n', '-e', '-h', '-i', '-t', '--index', '--json', '--names', '--raw', '--help', '--version',
            '--', '-qn', '-o')
-OCTETS = {'--raw', 'extract', '-'}            # with these the output may be octets
+OCTETS = {'--raw', 'extract', 'export', '-'}  # with these the output may be octets
 
 
 def some_octets(rng, most):
@@ -39,6 +39,8 @@ def some_book(rng):
     table = books.some_table(rng, most=4)
     if rng.random() < 0.3:
         table = reasons.with_lists(rng, table)
+    elif rng.random() < 0.3:
+        table = sheets.spiced(rng, table)
     what = rng.randrange(4)
     if what == 0:
         return some_octets(rng, 200), None
@@ -73,9 +75,11 @@ def some_words(rng, table):
     kind = oab.type_of(tag)
     value = spelling.words(kind, books.some_value(rng, kind))
     through = rng.choice(([], ['--index', 'saved']))
+    chosen = sheets.some_choice(rng, table, rng.choice((0, 0.5))) if table else [tag]
     right = {'show': [*through, 'book', '0', *['header'] * (not through)], 'get': [*through, 'book', '0', f'{tag:08X}'],
              'find': ['book', '--', rng.choice(value)[:3]],
              'why': ['book', rng.choice(('0', 'header')), f'{tag ^ rng.choice((0, 0, 1, 0x10000)):08X}'],
+             'export': ['-t', ','.join(f'{one:08X}' for one in chosen), 'book'],
              'set': ['book', '0', f'{tag:08X}', '--', *value],
              'clear': ['book', '0', f'{tag:08X}'], 'insert': ['book', '0', 'record'], 'delete': ['book', '0'],
              'extract': ['book', '0'],

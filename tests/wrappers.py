@@ -108,8 +108,13 @@ int main(void)
 {
     wt_judged j;
     wt_reason r;
+    wt_length made;
+    uint32_t tag = 0x3001001F;
+    uint8_t text[1] = { 7 };
     printf("%u %u ", wt_version() == WT_VERSION, wt_judge((const uint8_t *)"", 0, &j));
-    printf("%u", wt_why((const uint8_t *)"", 0, WT_HEADER, 0, &r));
+    printf("%u ", wt_why((const uint8_t *)"", 0, WT_HEADER, 0, &r));
+    printf("%u ", wt_sheet_length((const uint8_t *)"", 0, &tag, 1, &made));
+    printf("%u %u", wt_sheet((const uint8_t *)"", 0, &tag, 1, text, 1, &made), text[0]);
     return 0;
 }
 '''
@@ -135,7 +140,7 @@ def installed(folder):
         env = {**os.environ, 'PKG_CONFIG_PATH': f'{folder}/p/lib/pkgconfig', 'PKG_CONFIG_SYSROOT_DIR': str(folder)}
         flags = sh('pkg-config', '--cflags', '--libs', 'windtrellis', env=env)[1].decode().split()
     differs('a program', (0, b'', b''), sh('cc', '-Wall', '-Werror', '-o', program, source, *flags))
-    differs('and it runs', (0, b'1 2 2', b''), sh(program))
+    differs('and it runs', (0, b'1 2 2 2 2 7', b''), sh(program))
 
 
 COMPLETE = '''compopt() { :; }
@@ -155,7 +160,11 @@ def completion(folder):
     for words, want in (('oab se', 'set '), ('oab get b 0 DisplayN', 'DisplayName '), ('oab get b he', 'header '),
                         ('oab set -o out b 0 Smtp', 'SmtpAddress '), ('oab columns --', '--help --json --names '),
                         ('oab wh', 'why '), ('oab why b he', 'header '), ('oab why -q b 0 Surn', 'Surname '),
-                        ('oab why --j', '--json '),
+                        ('oab why --j', '--json '), ('oab ex', 'export extract '),
+                        ('oab export -t Smtp', 'SmtpAddress '),
+                        ('oab export -t DisplayName,Surn', 'DisplayName,Surname '),
+                        ('oab export -o out -t A,B,SendR', 'A,B,SendRichInfo '), ('oab export -', '-o -q --help -t '),
+                        ('oab export -t A examples/small.b', 'examples/small.book '),
                         ('oab check examples/small.b', 'examples/small.book '), ('oab set --n', ' ')):
         differs(words, (0, want.encode(), b''), sh('bash', '-c', COMPLETE, 'bash', *words.split(), cwd=TOP))
 

@@ -38,6 +38,18 @@ DESK_TABLE = (
      [b'/o=house/cn=eve\0', None, b'Eve\0', None, None, None]],
 )
 
+# A mailroom's book (request 101): names that hold commas, quotes and a line's end, numbers, booleans, values left out.
+MAILROOM_TABLE = (
+    [(0x6800001F, 0)],
+    [(0x39FE001F, 2), (0x3001001F, 1), (0x3003001E, 0), (0x39000003, 0), (0x3A40000B, 0), (0x800F101F, 0)],
+    [b'Mailroom\0'],
+    [[b'lisa@house.example\0', b'Miller, Lisa\0', b'/o=house/cn=lisa\0', b'\0', b'\x01',
+      b'\x01SMTP:lisa@house.example\0'],
+     [b'joe@house.example\0', b'Joe "Lee" Ray\0', None, b'\x82\0\x01', b'\0', None],
+     [b'desk@house.example\0', b'Front\r\ndesk\0', b'/o=house/cn=J\xFCrg\0', b'\x84\xFF\xFF\xFF\xFF', None, None],
+     [b'post@house.example\0', None, None, None, None, None]],
+)
+
 # Document 01, "A whole small book", with 00 for the four octets of the serial.
 SMALL_HEX = '''
 20 00 00 00 00 00 00 00 01 00 00 00

@@ -1,9 +1,10 @@
-"""Books of any length up to the limit, and their indexes, laid down by hand.
+"""Books of any length up to the limit, their indexes and their sheets, laid down by hand.
 
 What: a good book of exactly as many octets as asked for, with the places of its records, the same book with another
-first address, and its index of either kind. Why beside the model: the model judges octet by octet and would take
-minutes over 256 MiB. Here the form is known by construction (documents 000 and 01), and the serial is zlib's check with
-its last step undone, which check_model.py holds to the model's own.
+first address, its index of either kind and its sheet; books of one long string and of sixteen columns. Why beside the
+model: the model judges octet by octet and would take minutes over 256 MiB. Here the form is known by construction
+(documents 000 and 01), and the serial is zlib's check with its last step undone, which check_model.py holds to the
+model's own.
 """
 
 import zlib
@@ -41,6 +42,38 @@ def with_first(octets, places, address):
     name = octets[octets.index(0, places[0] + 5) + 1:places[1]]
     row = oab.record_octets([address + b'\0', bytes(name)])
     return sealed(octets[:places[0]] + row + octets[places[1]:], len(places))
+
+
+def sheet(octets, places, tags):
+    """By document 02, of the columns above: no value of the book above holds a mark, and none is absent."""
+    lines = [b','.join(b'%08X' % tag for tag in tags)]
+    for place in places:
+        first = octets.index(0, place + 5)
+        values = {COLUMNS[0][0]: octets[place + 5:first], COLUMNS[1][0]: octets[first + 1:octets.index(0, first + 1)]}
+        lines.append(b','.join(values[tag] for tag in tags))
+    return b''.join(line + b'\r\n' for line in lines)
+
+
+def one_string(size, octet):
+    """A good book of `size` octets whose one record has a name of nothing but that octet; and how many there are."""
+    octets = bytearray(FRONT)
+    count = size - len(octets) - 8
+    octets += oab.record_octets([b'a\0', octet * count + b'\0'])
+    assert len(octets) == size
+    return sealed(octets, 1), count
+
+
+def sixteen(size):
+    """A good book of at most `size` octets with sixteen columns, 65,535 equal records; and its sheet."""
+    tags = [(0x3A00 + i) << 16 | (0x1F, 0x1E)[i % 2] for i in range(16)]
+    octets = bytearray(12) + oab.metadata_octets([], [(tag, 0) for tag in tags]) + oab.record_octets([])
+    long = ((size - len(octets)) // oab.MOST_RECORDS - 6 - 16) // 16
+    values = [bytes([0x41 + i]) * (long - i % 3) + b'\0' for i in range(16)]
+    octets += oab.record_octets(values) * oab.MOST_RECORDS
+    assert len(octets) <= size
+    line = b','.join(value[:-1] for value in values) + b'\r\n'
+    head = b','.join(b'%08X' % tag for tag in tags) + b'\r\n'
+    return sealed(octets, oab.MOST_RECORDS), tags, head + line * oab.MOST_RECORDS
 
 
 def index(octets, places):

@@ -1,7 +1,7 @@
 """A plain model of version 4 books (uncompressed full details files).
 
-What: judging a book, looking values up or saying why there is none, listing, writing
-and correcting one, all on byte strings. Why: the expected output of the tests comes from
+What: judging a book, looking values up or saying why there is none, listing, exporting,
+writing and correcting one, all on byte strings. Why: the expected output of the tests comes from
 here and never from the code under test. The model is written from document 01 (the scope),
 document 000 (sections 2.9 to 2.9.6.9) and docs/DECISIONS.md, as straight down from their
 words as possible; speed plays no part. "Decision N" below is its number there.
@@ -505,6 +505,61 @@ def table_of(book):
         return [None if s is None else bytes(book[s[0]:s[1]]) for s in record.stretches]
 
     return got.header_columns, got.address_columns, row(got.header_record), [row(r) for r in got.records]
+
+
+# ---------------------------------------------------------------- a sheet (request 101, RFC 4180)
+
+EXPORTED = (NUMBER, YES_OR_NO, NARROW, TEXT)
+MOST_CHOSEN = 16
+
+
+def sheet_field(tag, value):
+    """The text of a value, from its encoding; None is absent."""
+    if value is None:
+        return b''
+    if type_of(tag) == NUMBER:
+        return b'%d' % number_at(value)[0]
+    if type_of(tag) == YES_OR_NO:
+        return b'%d' % value[0]
+    text = value[:-1]
+    if any(octet in b',"\r\n' for octet in text):
+        return b'"' + text.replace(b'"', b'""') + b'"'
+    return text
+
+
+def sheet_line(fields):
+    return b','.join(fields) + b'\r\n'
+
+
+def make_sheet(book, tags):
+    """The whole text; the book's refusals, 15 for any unknown tag, 18 for the choice (reading 23)."""
+    columns = [tag for tag, _ in read_book(book).address_columns]
+    if any(tag not in columns for tag in tags):
+        raise Refusal(15, 0)
+    if any(type_of(tag) not in EXPORTED for tag in tags):
+        raise Refusal(18, 0)
+    if not 1 <= len(tags) <= MOST_CHOSEN or len(set(tags)) < len(tags):
+        raise Refusal(18, 0)
+    text = sheet_line([b'%08X' % tag for tag in tags])
+    for row in table_of(book)[3]:
+        text += sheet_line([sheet_field(tag, row[columns.index(tag)]) for tag in tags])
+    return text
+
+
+def sheet_length(book, tags):
+    try:
+        return ('made', len(make_sheet(book, tags)))
+    except Refusal as refusal:
+        return refusal.answer()
+
+
+def sheet(book, tags, room):
+    """The octets of the sheet; 17 comes last."""
+    try:
+        text = make_sheet(book, tags)
+    except Refusal as refusal:
+        return refusal.answer()
+    return ('made', text) if len(text) <= room else ('refused', 17, 0)
 
 
 # ---------------------------------------------------------------- laying a book down
