@@ -5,7 +5,7 @@
 # SANITIZE=1 builds below target/sanitized, with the C files watched for wrong accesses and undefined steps.
 
 # The crates of the calls. Each gives one object, which shows its own calls and nothing else.
-FACES = face_reading face_reason face_index face_correcting face_writing
+FACES = face_reading face_reason face_index face_sheet face_correcting face_writing
 
 ifneq ($(LIBRARY)$(filter x86_64,$(shell uname -m)),)
 CC ?= cc

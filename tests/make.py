@@ -799,8 +799,8 @@ class SheetStream(Stream):
     Payload, first octet:
       0 a book                                   "book"
       1 tags of 4: the length of the sheet       "made LENGTH" or "refused N P"
-      2 4 room, tags of 4: the sheet, written    the same, a blank, and the hex of all of them (nothing where there
-        in as many octets A5                     are none)
+      2 4 room, tags of 4: the sheet, written    the same, a blank, and the hex of all of them
+        in as many octets A5
     """
 
     def __init__(self):
@@ -831,7 +831,7 @@ class SheetStream(Stream):
         words = ('made', len(made)) if made else answer
         self.count('export', answer)
         self.add(b'\2' + oab.four(room) + b''.join(oab.four(tag) for tag in tags),
-                 ' '.join(str(word) for word in words) + ' ' + after.hex().upper())
+                 ' '.join(str(word) for word in words) + ' ' + hex_of(after))
         return answer
 
 

@@ -7,3 +7,4 @@ pub mod LineCases
 pub mod RecordCases
 pub mod Tied
 pub mod Cases
+pub mod Told

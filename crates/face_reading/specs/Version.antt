@@ -3,4 +3,4 @@
 use Prim.Native.Nat.{ℕ}
 
 abbrev pub version : ℕ
-version = 10200
+version = 10300
