@@ -3,69 +3,134 @@ use Prim.Native.Nat.{ℕ, suc, _+_, _-_, _≤_, _<_}
 use native.Mathlib.Omega.{arith}
 use native.Mathlib.Nat.{add-zero}
 use native.Mathlib.Numerals.{add-one}
-use mathlib.Core.Path.{_≡_, refl, sym, ap, _∙_}
-use mathlib.Core.Bool.{Bool, true, false, cond}
+use mathlib.Core.Path.{_≡_, sym, ap, _∙_}
+use mathlib.Core.Bool.{Bool, true, false, not, cond}
 use mathlib.Core.List.{List, [], _∷_, _++_}
 use lib.Dec.{leb}
 use lib.ListN.{length, getD, take, drop, set, length-drop, length-set, drop-of-length-le, List·getD-eq-default}
 use lib.Seq.{drop-drop}
-use borrow.Author.Tests.{le-leb, lt-leb, lt-ltb, le-ltb}
+use borrow.Author.Tests.{le-leb, lt-leb, lt-ltb, le-ltb, eq-eqb, ne-eqb, not-true, not-false}
 use Rattle.octets.specs.Octets.{rest-of, drop-next}
 use Rattle.octets.specs.Splice.{splice, stored, stored-in, stored-out, stored-nil}
 use Rattle.octets.specs.Stores.{splice-one, laid-one}
 use Rattle.octets.specs.Word.{wordOf}
-use Rattle.presence.specs.Presence.{room}
+use Rattle.presence.specs.Presence.{room, isSet}
 use Rattle.answers.specs.declared.Walk.{Walk}
 use Rattle.answers.specs.declared.Walk.the-variants.{Ends, Broken}
-use Rattle.value.specs.Types.{Form, formAt}
+use Rattle.value.specs.Types.{formAt}
+use Rattle.whole.specs.declared.Number.{Number}
+use Rattle.whole.specs.declared.Number.the-variants.{Is, Broken as NoNumber}
+use Rattle.whole.specs.Number.{numberOf}
+use Rattle.text.specs.Narrow.{narrowOf}
+use Rattle.value.specs.Value.{numericOf, elementOf, valueOf}
+use Rattle.value.specs.Short.{shortOf, short-is}
 use Rattle.entry.specs.Slots.{stepOf}
 use Rattle.entry.specs.Read.{widthOf}
 use Rattle.entry.specs.Record.{presentIn, valuesIn}
 use Rattle.entry.specs.Cases.{present-in}
+use Rattle.edges.specs.Passed.{passedForm, passed, passed-long}
 use Rattle.edges.specs.Edges.{edgesFrom, edgesIn, cellIn, edges-long, width-in}
+
+-- ---- pass_form
+
+pub pass-text : (f : ℕ) → f ≡ 3 → _≡_ {A = ℕ} 2 (passedForm f)
+unfolding passedForm
+pass-text f e = rw (eq-eqb f 3 e)
+
+pub pass-texts : (f : ℕ) → (f ≡ 3 → ⊥) → f ≡ 5 + 3 → _≡_ {A = ℕ} (5 + 2) (passedForm f)
+unfolding passedForm
+pass-texts f e q = rw (ne-eqb f 3 e, eq-eqb f 8 q)
+
+pub pass-other : (f : ℕ) → (f ≡ 3 → ⊥) → (f ≡ 5 + 3 → ⊥) → f ≡ passedForm f
+unfolding passedForm
+pass-other f e q = rw (ne-eqb f 3 e, ne-eqb f 8 q)
+
+pub ruleset passings = (pass-text, pass-texts, pass-other)
+
+-- ---- pass_value
+
+pub pass-narrow : (f : ℕ) (ys : List ℕ) (r : Walk) → f ≡ 2 → r ≡ narrowOf ys → r ≡ valueOf (formAt f) ys
+unfolding formAt valueOf elementOf
+pass-narrow f ys r e q = rw e q
+
+module _ (f : ℕ) (ys : List ℕ) (e : f ≡ 0) (r : Number) (q : r ≡ numberOf ys) where
+  pub pass-number : (n w : ℕ) → r ≡ Is n w → Ends w ≡ valueOf (formAt f) ys
+  unfolding formAt valueOf elementOf numericOf
+  pass-number n w z = rw (e, ← q, z)
+
+  pub pass-broken : r ≡ NoNumber → Broken 0 ≡ valueOf (formAt f) ys
+  unfolding formAt valueOf elementOf numericOf
+  pass-broken z = rw (e, ← q, z)
+
+pub ruleset passes = (pass-narrow, pass-number, pass-broken)
 
 -- ---- column_width
 
-module _ (p : List ℕ) (i : ℕ) (f : Form) (ys : List ℕ) (r : Walk) (e : r ≡ stepOf p i f ys) where
-  pub width-ends : (w : ℕ) → r ≡ Ends w → w ≡ widthOf (stepOf p i f ys)
-  width-ends w z = rw (← e, z)
+-- a width lies in the octets
+width-fits : (p : List ℕ) (i f : ℕ) (ys : List ℕ) (w : ℕ) → w ≡ widthOf (stepOf p i (formAt f) ys) → w ≤ length ys
+width-fits p i f ys w e = rw e (width-in p i (formAt f) ys)
 
-  pub ends-in : (w : ℕ) → r ≡ Ends w → w ≤ length ys
-  ends-in w z = rw (width-ends w z) (width-in p i f ys)
+module _ (p : List ℕ) (i f : ℕ) (ys : List ℕ) (t : Bool) (e : t ≡ isSet p i) where
+  pub width-absent : not t ≡ true → 0 ≡ widthOf (stepOf p i (formAt f) ys)
+  unfolding stepOf
+  width-absent z = rw (← e, not-true t z)
 
-  pub width-breaks : (q : ℕ) → r ≡ Broken q → 0 ≡ widthOf (stepOf p i f ys)
-  width-breaks q z = rw (← e, z)
+  module _ (z : not t ≡ false) where
+    step-is : stepOf p i (formAt f) ys ≡ valueOf (formAt f) ys
+    unfolding stepOf
+    step-is = rw (← e, not-false t z)
 
-pub ruleset widths = (width-ends, ends-in, width-breaks)
+    pub width-short : (u : Bool) → u ≡ shortOf f ys → u ≡ true → 1 ≡ widthOf (stepOf p i (formAt f) ys)
+    width-short u q y = rw (step-is, short-is f ys (sym q ∙ y))
+
+    pub short-fits : (u : Bool) → u ≡ shortOf f ys → u ≡ true → 1 ≤ length ys
+    short-fits u q y = width-fits p i f ys 1 (width-short u q y)
+
+    module _ (r : Walk) (q : r ≡ valueOf (formAt f) ys) where
+      pub width-ends : (w : ℕ) → r ≡ Ends w → w ≡ widthOf (stepOf p i (formAt f) ys)
+      width-ends w y = rw (step-is, ← q, y)
+
+      pub ends-fit : (w : ℕ) → r ≡ Ends w → w ≤ length ys
+      ends-fit w y = width-fits p i f ys w (width-ends w y)
+
+      pub width-breaks : (k : ℕ) → r ≡ Broken k → 0 ≡ widthOf (stepOf p i (formAt f) ys)
+      width-breaks k y = rw (step-is, ← q, y)
+
+pub ruleset widths = (width-absent, width-short, short-fits, width-ends, ends-fit, width-breaks)
 
 -- ---- fill_edges
 
 pub edges-start : (d forms p s : List ℕ) (at : ℕ)
-    → splice d 0 (edgesFrom (drop 0 forms) 0 p (at + 0) (drop 0 s)) ≡ splice d 0 (edgesFrom forms 0 p at s)
+    → splice d 0 (edgesFrom (passed (drop 0 forms)) 0 p (at + 0) (drop 0 s))
+    ≡ splice d 0 (edgesFrom (passed forms) 0 p at s)
 edges-start d forms p s at = rw (add-zero at)
 
 module _ (d e forms p s : List ℕ) (at j i : ℕ)
-    (inv : splice e j (edgesFrom (drop j forms) j p (at + i) (drop i s)) ≡ splice d 0 (edgesFrom forms 0 p at s))
+    (inv : splice e j (edgesFrom (passed (drop j forms)) j p (at + i) (drop i s))
+    ≡ splice d 0 (edgesFrom (passed forms) 0 p at s))
     (long : length e ≡ length d) (room : length forms < length d) where
-  module _ (g : j < length forms) (w : ℕ)
-      (q : w ≡ widthOf (stepOf p j (formAt (getD forms j 0)) (take (length s - i) (drop i s)))) where
-    turn : edgesFrom (drop j forms) j p (at + i) (drop i s)
-        ≡ (at + i) ∷ edgesFrom (drop (j + 1) forms) (j + 1) p (at + (i + w)) (drop (i + w) s)
+  module _ (g : j < length forms) (f : ℕ) (y : f ≡ passedForm (getD forms j 0)) (w : ℕ)
+      (q : w ≡ widthOf (stepOf p j (formAt f) (take (length s - i) (drop i s)))) where
+    abbrev later : List ℕ
+    later = edgesFrom (passed (drop (j + 1) forms)) (j + 1) p (at + (i + w)) (drop (i + w) s)
+
+    turn : edgesFrom (passed (drop j forms)) j p (at + i) (drop i s) ≡ (at + i) ∷ later
     unfolding edgesFrom
     turn =
-        let v : widthOf (stepOf p j (formAt (getD forms j 0)) (drop i s)) ≡ w = rw (rest-of s i) at (sym q) in
+        let v : widthOf (stepOf p j (formAt (passedForm (getD forms j 0))) (drop i s)) ≡ w =
+        rw (y, rest-of s i) at (sym q) in
         let a : at + i + w ≡ at + (i + w) = omega arith in
         rw (drop-next forms j g, v, a, drop-drop w i s, ← add-one j)
 
-    pub edges-step : splice (set e j (at + i)) (j + 1)
-        (edgesFrom (drop (j + 1) forms) (j + 1) p (at + (i + w)) (drop (i + w) s)) ≡ splice d 0 (edgesFrom forms 0 p at s)
+    pub edges-step : splice (set e j (at + i)) (j + 1) later ≡ splice d 0 (edgesFrom (passed forms) 0 p at s)
     edges-step =
-        let n = edges-long (drop (j + 1) forms) (j + 1) p (at + (i + w)) (drop (i + w) s) in
+        let n = edges-long (passed (drop (j + 1) forms)) (j + 1) p (at + (i + w)) (drop (i + w) s) in
+        let k = passed-long (drop (j + 1) forms) in
         let m = length-drop (j + 1) forms in
-        laid-one e (at + i) (edgesFrom (drop (j + 1) forms) (j + 1) p (at + (i + w)) (drop (i + w) s)) j (omega arith)
-        ∙ ap (splice e j) (sym turn) ∙ inv
+        laid-one e (at + i) later j (omega arith) ∙ ap (splice e j) (sym turn) ∙ inv
 
-  pub edges-end : length forms ≤ j → j ≤ length forms → set e j (at + i) ≡ splice d 0 (edgesFrom forms 0 p at s)
+  pub edges-end : length forms ≤ j → j ≤ length forms
+      → set e j (at + i) ≡ splice d 0 (edgesFrom (passed forms) 0 p at s)
   unfolding edgesFrom
   edges-end h k =
       splice-one e j (at + i) (omega arith) ∙ rw (drop-of-length-le forms {i = j} h) at inv
@@ -80,12 +145,13 @@ pub ruleset fillings = (edges-start, edges-step, edges-end, edges-kept)
 -- of the record t, which stands at `at`
 unfoldable pub edgesInside : List ℕ → ℕ → List ℕ → List ℕ
 edgesInside forms at t =
-    edgesFrom forms 0 (take (room (length forms)) (drop 4 t)) (at + 4 + room (length forms))
+    edgesFrom (passed forms) 0 (take (room (length forms)) (drop 4 t)) (at + 4 + room (length forms))
     (drop (4 + room (length forms)) t)
 
 pub inside-is : (d forms t : List ℕ) (at m : ℕ) (r : List ℕ) → m ≡ room (length forms)
     → r ≡ splice d 0
-    (edgesFrom forms 0 (take (4 + m - 4) (drop 4 t)) (at + (4 + m)) (take (length t - (4 + m)) (drop (4 + m) t)))
+    (edgesFrom (passed forms) 0 (take (4 + m - 4) (drop 4 t)) (at + (4 + m))
+    (take (length t - (4 + m)) (drop (4 + m) t)))
     → r ≡ splice d 0 (edgesInside forms at t)
 unfolding edgesInside
 inside-is d forms t at m r e q =
@@ -96,8 +162,9 @@ inside-is d forms t at m r e q =
 inside-long : (forms : List ℕ) (at : ℕ) (t : List ℕ) → length (edgesInside forms at t) ≡ suc (length forms)
 unfolding edgesInside
 inside-long forms at t =
-    edges-long forms 0 (take (room (length forms)) (drop 4 t)) (at + 4 + room (length forms))
+    edges-long (passed forms) 0 (take (room (length forms)) (drop 4 t)) (at + 4 + room (length forms))
     (drop (4 + room (length forms)) t)
+    ∙ ap suc (passed-long forms)
 
 -- ---- put_edges
 
@@ -111,10 +178,11 @@ module _ (d forms b : List ℕ) (at : ℕ) where
   unfolding edgesIn
   put-few h =
       let es : List ℕ =
-      edgesFrom forms 0 (presentIn (length forms) (drop at b)) (at + 4 + room (length forms))
+      edgesFrom (passed forms) 0 (presentIn (length forms) (drop at b)) (at + 4 + room (length forms))
       (valuesIn (length forms) (drop at b)) in
+      let k = passed-long forms in
       let l =
-      edges-long forms 0 (presentIn (length forms) (drop at b)) (at + 4 + room (length forms))
+      edges-long (passed forms) 0 (presentIn (length forms) (drop at b)) (at + 4 + room (length forms))
       (valuesIn (length forms) (drop at b)) in
       none-laid d es (leb (4 + room (length forms)) (wordOf 4 (drop at b)))
       (leb (wordOf 4 (drop at b)) (length (drop at b))) (omega arith)
@@ -136,7 +204,8 @@ module _ (d forms b : List ℕ) (at : ℕ) where
       put-cut k =
           rw (length-drop at b, ← q, ← z, le-leb (4 + m) w h, lt-leb w (length b - at) k) (sym (stored-nil d 0))
 
-      there-is : w ≤ length b - at → edgesIn forms at (drop at b) ≡ edgesInside forms at (take (at + w - at) (drop at b))
+      there-is : w ≤ length b - at
+          → edgesIn forms at (drop at b) ≡ edgesInside forms at (take (at + w - at) (drop at b))
       unfolding edgesIn edgesInside
       there-is k =
           let y : at + w - at ≡ w = omega arith in

@@ -1,11 +1,11 @@
--- The edges of a record: one in front of the value of each column, and one behind the last. Between two edges stands what
--- the row that is read there has in that column.
+-- The edges of a record: one in front of the value of each column, and one behind the last. Between two edges stands
+-- what the row that is read there has in that column.
 use Prim.Native.Nat.{ℕ, zero, suc, _+_, _-_, _^_, _≤_, _<_}
 use native.Mathlib.Omega.{arith}
 use native.Mathlib.Numerals.{add-one}
 use mathlib.Core.Path.{_≡_, refl, sym, ap, _∙_}
 use mathlib.Core.Bool.{Bool, true, false, cond}
-use mathlib.Core.Option.{Option, none, some}
+use mathlib.Core.Option.{Option, none}
 use mathlib.Core.List.{List, [], _∷_, _++_}
 use lib.Dec.{ltb, leb}
 use lib.ListN.{length, getD, take, drop, length-append, length-drop, List·getD-append}
@@ -21,11 +21,12 @@ use Rattle.value.specs.Types.{Form, formAt}
 use Rattle.value.specs.Value.{valueOf}
 use Rattle.value.specs.Within.{value-within}
 use Rattle.entry.specs.Present.{Row, presenceOf, presence-length}
-use Rattle.entry.specs.Record.{Slot, valuesOf, innerOf, rowOctets, SoundRow, presentIn, valuesIn, part-to, row-long}
+use Rattle.entry.specs.Record.{valuesOf, innerOf, rowOctets, SoundRow, presentIn, valuesIn, part-to, row-long}
 use Rattle.entry.specs.Record.{row-length, row-size}
 use Rattle.entry.specs.Values.{entryOctets}
 use Rattle.entry.specs.Slots.{slotsFrom, slots-many, stepOf}
 use Rattle.entry.specs.Read.{widthOf, entryBy, entryAt, rowFrom, rowIn, row-in}
+use Rattle.edges.specs.Passed.{passed, passed-long, row-passed}
 
 -- as many as a record may have
 abbrev pub mostEdges : ℕ
@@ -39,12 +40,14 @@ edgesFrom (f ∷ forms) i p at ys =
     at ∷ edgesFrom forms (suc i) p (at + widthOf (stepOf p i (formAt f) ys))
     (drop (widthOf (stepOf p i (formAt f) ys)) ys)
 
--- of the record at the front of xs, which stands at `at`; a record that isn't whole has none
+-- of the record at the front of xs, which stands at `at`; a record that isn't whole has none. Texts are passed over as
+-- narrow strings
 unfoldable pub edgesIn : List ℕ → ℕ → List ℕ → List ℕ
 edgesIn forms at xs =
     cond (leb (4 + room (length forms)) (wordOf 4 xs))
     (cond (leb (wordOf 4 xs) (length xs))
-    (edgesFrom forms 0 (presentIn (length forms) xs) (at + 4 + room (length forms)) (valuesIn (length forms) xs))
+    (edgesFrom (passed forms) 0 (presentIn (length forms) xs) (at + 4 + room (length forms))
+    (valuesIn (length forms) xs))
     [])
     []
 
@@ -166,10 +169,10 @@ cell-of e xs ys rest at a z h q c =
           ∙ take-append-le (z - a) (drop (a - at) ys) rest (omega arith) ∙ c .reads;
     }
 
--- the edges of a record that is whole, in any octets
+-- the edges of a record that is whole, in any octets, and of the row that is passed over there
 record-edge : (forms flags xs : List ℕ) (at c : ℕ)
     → 4 + room (length forms) ≤ wordOf 4 (drop at xs) → wordOf 4 (drop at xs) ≤ length (drop at xs) → c < length forms
-    → CellOf (getD (rowIn (slotsFrom forms flags) (drop at xs)) c none) xs
+    → CellOf (getD (rowIn (slotsFrom (passed forms) flags) (drop at xs)) c none) xs
     (getD (edgesIn forms at (drop at xs)) c 0) (getD (edgesIn forms at (drop at xs)) (c + 1) 0)
 unfolding edgesIn rowIn
 record-edge forms flags xs at c s w g =
@@ -183,10 +186,12 @@ record-edge forms flags xs at c s w g =
     let d : drop (at + 4 + m) xs ≡ valuesIn n ys ++ drop (wordOf 4 ys) ys =
     (let a : at + (4 + m) ≡ at + 4 + m = omega arith in rw a at (sym (drop-drop (4 + m) at xs)))
     ∙ part-to (4 + m) (wordOf 4 ys) ys s w in
-    let i = edges-are forms flags c 0 (presentIn n ys) (at + 4 + m) (valuesIn n ys) g in
-    rw (le-leb (4 + m) (wordOf 4 ys) s, le-leb (wordOf 4 ys) (length ys) w, slots-many forms flags, add-one c)
-    (cell-of (getD (rowFrom (slotsFrom forms flags) 0 (presentIn n ys) (valuesIn n ys)) c none) xs (valuesIn n ys)
-    (drop (wordOf 4 ys) ys) (at + 4 + m) _ _ (omega arith) d i)
+    let p = passed-long forms in
+    let i = edges-are (passed forms) flags c 0 (presentIn n ys) (at + 4 + m) (valuesIn n ys) (omega arith) in
+    rw
+    (le-leb (4 + m) (wordOf 4 ys) s, le-leb (wordOf 4 ys) (length ys) w, slots-many (passed forms) flags, p, add-one c)
+    (cell-of (getD (rowFrom (slotsFrom (passed forms) flags) 0 (presentIn n ys) (valuesIn n ys)) c none) xs
+    (valuesIn n ys) (drop (wordOf 4 ys) ys) (at + 4 + m) _ _ (omega arith) d i)
 
 -- the octets of a sound row are a whole record
 row-whole : (forms flags xs : List ℕ) (at : ℕ) (es : Row) (rest : List ℕ) → length xs ≤ mostOctets
@@ -215,8 +220,8 @@ module _ (forms flags xs : List ℕ) (at : ℕ) (es : Row) (rest : List ℕ) (k 
       let l : length (drop at xs) ≡ length xs - at = length-drop at xs in
       let a : length (drop at xs) ≡ length (rowOctets es) + length rest = ap length q
       ∙ length-append (rowOctets es) rest in
-      let r : rowIn (slotsFrom forms flags) (drop at xs) ≡ es = ap (rowIn (slotsFrom forms flags)) q
-      ∙ row-in (slotsFrom forms flags) es rest sd (omega arith) in
+      let r : rowIn (slotsFrom (passed forms) flags) (drop at xs) ≡ es = ap (rowIn (slotsFrom (passed forms) flags)) q
+      ∙ row-in (slotsFrom (passed forms) flags) es rest (row-passed forms flags es sd) (omega arith) in
       rw r at (record-edge forms flags xs at c (w .0) (w .1) g)
 
   row-edges : length (edgesIn forms at (drop at xs)) ≡ suc (length forms)
@@ -228,7 +233,8 @@ module _ (forms flags xs : List ℕ) (at : ℕ) (es : Row) (rest : List ℕ) (k 
         le-leb (4 + room n) (wordOf 4 (drop at xs)) (w .0),
         le-leb (wordOf 4 (drop at xs)) (length (drop at xs)) (w .1),
       )
-      (edges-long forms 0 (presentIn n (drop at xs)) (at + 4 + room n) (valuesIn n (drop at xs)))
+      (edges-long (passed forms) 0 (presentIn n (drop at xs)) (at + 4 + room n) (valuesIn n (drop at xs))
+      ∙ ap suc (passed-long forms))
 
 -- the octets of a column are those of its entry
 cell-is : (e : Option (List ℕ)) (xs edges : List ℕ) (c : ℕ)

@@ -1,2 +1,3 @@
+pub mod Passed
 pub mod Edges
 pub mod Cases

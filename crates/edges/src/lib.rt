@@ -1,44 +1,86 @@
-// Where the values of a record stand, by one walk over it: an edge in front of each column's value, one behind the last,
-// laid down in an array that the caller lends, so that many records can be gone through with one array.
+// Where the values of a record stand, by one walk over it: an edge in front of each column's value, one behind the
+// last, laid down in an array that the caller lends, so that many records can be gone through with one array.
 use answers::Walk;
 use octets::word32;
+use value::LIST;
+use value::NARROW;
+use value::NUMBER;
+use value::TEXT;
+use whole::Number;
 ghost use mathlib.Core.Path.{_≡_};
 ghost use Prim.Native.Nat.{_+_, _^_, _≤_, _<_};
 ghost use lib.ListN.{length, drop};
 ghost use Rattle.octets.specs.Splice.{splice, stored};
 ghost use Rattle.presence.specs.Presence.{room};
 ghost use Rattle.value.specs.Types.{formAt};
+ghost use Rattle.value.specs.Value.{valueOf};
 ghost use Rattle.entry.specs.Slots.{stepOf};
 ghost use Rattle.entry.specs.Read.{widthOf};
+ghost use Rattle.edges.specs.Passed.{passedForm, passed};
 ghost use Rattle.edges.specs.Edges.{edgesFrom, edgesIn, cellIn};
 ghost use Rattle.edges.specs.Cases.{edgesInside};
 
 // As many edges as a record may have: one more than columns.
 pub const MOST_EDGES: usize = 129;
 
+// The form by which a value of a good record is passed over: a text like a narrow string, which ends alike.
+fn pass_form(form: u8) -> u8
+    ensures { λ r. ⌜ r ≡ passedForm form ⌝ }
+{
+    if form == TEXT {
+        return NARROW;
+    }
+    if form == LIST + TEXT {
+        return LIST + NARROW;
+    }
+    form
+}
+
+// The walk over a value, with the commonest forms at hand.
+fn pass_value(form: u8, s: &[u8]) -> Walk
+    ensures { λ r. ⌜ r ≡ valueOf (formAt form) (now (s .entry)) ⌝ }
+{
+    if form == NARROW {
+        return text::narrow_string(s);
+    }
+    if form == NUMBER {
+        return match whole::read_number(s) {
+            Number::Is(_, w) => Walk::Ends(w),
+            Number::Broken => Walk::Broken(0),
+        };
+    }
+    value::walk_value(form, s)
+}
+
 // How many octets the value of column i takes; none where it is absent or breaks its form.
 fn column_width(p: &[u8], i: usize, form: u8, s: &[u8]) -> usize
     ensures { λ r. ⌜ (r ≡ widthOf (stepOf (now (p .entry)) i (formAt form) (now (s .entry))))
         × (r ≤ length (now (s .entry))) ⌝ }
 {
-    let Walk::Ends(w) = entry::walk_column(p, i, form, s) else {
+    if !presence::has(p, i) {
+        return 0;
+    }
+    if value::is_short(form, s) {
+        return 1;
+    }
+    let Walk::Ends(w) = pass_value(form, s) else {
         return 0;
     };
     w
 }
 
-// `p` has the presence octets, `forms` the form of each column's values, and `s` is what follows the presence octets and
-// stands at `at`.
+// `p` has the presence octets, `forms` the form of each column's values, and `s` is what follows the presence octets
+// and stands at `at`.
 fn fill_edges(p: &[u8], forms: &[u8], s: &[u8], at: usize, edges: &mut [usize])
     requires { ⌜ (length (now forms) < length (now edges)) × (at + length (now s) < 2 ^ 64) ⌝ }
     ensures { λ _. ⌜ now (edges .exit) ≡ splice (now (edges .entry)) 0
-        (edgesFrom (now (forms .entry)) 0 (now (p .entry)) at (now (s .entry))) ⌝ }
+        (edgesFrom (passed (now (forms .entry))) 0 (now (p .entry)) at (now (s .entry))) ⌝ }
 {
     let mut j = 0;
     let mut i = 0;
     while j < forms.len() {
         edges[j] = at + i;
-        i += column_width(p, j, forms[j], &s[i..]);
+        i += column_width(p, j, pass_form(forms[j]), &s[i..]);
         j += 1;
     }
     edges[j] = at + i;

@@ -1,5 +1,5 @@
 -- The ways of the calls that export, on plain values.
-use Prim.Native.Nat.{ℕ, zero, suc, _+_, _-_, _*_, _^_, _≤_, _<_}
+use Prim.Native.Nat.{ℕ, _+_, _-_, _*_, _^_, _≤_, _<_}
 use native.Mathlib.Omega.{arith}
 use native.Mathlib.Nat.{sub-zero}
 use mathlib.Core.Path.{_≡_, refl, sym, ap, ap₂, _∙_}
@@ -25,7 +25,7 @@ use Rattle.answers.specs.Made.{answered, answered-done}
 use Rattle.table.specs.declared.Columns.{Columns}
 use Rattle.table.specs.Columns.{tagsOf, formsOf, columnsIn}
 use Rattle.edges.specs.Edges.{mostEdges}
-use Rattle.book.specs.Book.{colsIn, countIn, judge}
+use Rattle.book.specs.Book.{colsIn, countIn}
 use Rattle.book.specs.Front.{firstPlace}
 use Rattle.book.specs.Judged.{judgedOf}
 use Rattle.book.specs.Good.{GoodIs, good-is, refused-by, good-keeps, tags-in, forms-in, reach-tags, reach-forms}
@@ -92,7 +92,8 @@ module _ (columns : Columns) (tags places : List ℕ) (few : length tags ≤ mos
       ≡ sheetFrom xs columns tags n at
   unfolding sheetFrom
   sheet-is xs n at =
-      ap₂ (λ (f p : List ℕ). sheetBy xs f tags p n at) (ap (λ (k : ℕ). take k (columns .forms)) (sub-zero (columns .count)))
+      ap₂ (λ (f p : List ℕ). sheetBy xs f tags p n at)
+      (ap (λ (k : ℕ). take k (columns .forms)) (sub-zero (columns .count)))
       places-are
 
 -- ---- measure_good
@@ -115,7 +116,8 @@ module _ (xs : List ℕ) (columns : Columns) (tags : List ℕ) (n at : ℕ) (v :
       measure-part = places-reach columns tags places measure-few p
 
       pub measure-done : (r : ℕ)
-          → r ≡ length (sheetBy xs (take (columns .count - 0) (columns .forms)) tags (take (length tags - 0) places) n at)
+          → r
+          ≡ length (sheetBy xs (take (columns .count - 0) (columns .forms)) tags (take (length tags - 0) places) n at)
           → made.Done r ≡ goodLength xs columns tags n at
       unfolding goodLength
       measure-done r q =
@@ -131,7 +133,8 @@ unfolding sheetFrom sheetBy
 front-fits xs columns tags d n at h =
     let l =
     length-append (lineOf (tagFields tags))
-    (linesBy xs (take (columns .count) (columns .forms)) tags (placesIn (take (columns .count) (columns .tags)) tags) n at
+    (linesBy xs (take (columns .count) (columns .forms)) tags
+    (placesIn (take (columns .count) (columns .tags)) tags) n at
     (replicate mostEdges 0)) in
     omega arith
 
@@ -278,7 +281,8 @@ module _ (xs tags : List ℕ) (j : Judgement) (e : j ≡ judgedOf xs) where
     -- the sheet as the code goes over it
     abbrev coded : List ℕ
     coded =
-        sheetBy xs (formsOf (bookIn xs .cols)) tags (placesIn (tagsOf (bookIn xs .cols)) tags) (countIn xs) (firstPlace xs)
+        sheetBy xs (formsOf (bookIn xs .cols)) tags (placesIn (tagsOf (bookIn xs .cols)) tags) (countIn xs)
+        (firstPlace xs)
 
     coded-is : sheetFrom xs (j .address) tags c f ≡ coded
     unfolding sheetFrom
@@ -289,7 +293,8 @@ module _ (xs tags : List ℕ) (j : Judgement) (e : j ≡ judgedOf xs) where
 
     -- where the choice is good the two sheets are one
     module _ (o : (i : ℕ) → Fits w8 (getD xs i 0)) where
-      one-sheet : {X : Type 0} (g : Verdict → List ℕ → X) → ((r : Refusal) (s t : List ℕ) → g (Refused r) s ≡ g (Refused r) t)
+      one-sheet : {X : Type 0} (g : Verdict → List ℕ → X)
+          → ((r : Refusal) (s t : List ℕ) → g (Refused r) s ≡ g (Refused r) t)
           → g (choiceAt (tagsOf (bookIn xs .cols)) tags) coded
           ≡ g (choiceAt (tagsOf (bookIn xs .cols)) tags) (sheetIn xs tags)
       one-sheet {X} g k = go (choiceAt (tagsOf (bookIn xs .cols)) tags) refl

@@ -1,27 +1,21 @@
 -- The ways of the code that measures and writes a field, on plain values.
 use Prim.Native.Nat.{ℕ, zero, suc, _+_, _-_, _*_, _/_, _%_, _^_, _≤_, _<_}
 use native.Mathlib.Omega.{arith}
-use native.Mathlib.Nat.{add-zero, zero-add, sub-zero, add-assoc, mod-lt}
+use native.Mathlib.Nat.{mod-lt, pow-suc}
 use native.Mathlib.Numerals.{add-one}
 use mathlib.Core.Path.{_≡_, refl, sym, ap, _∙_}
-use mathlib.Core.Bool.{Bool, true, false, cond, not}
-use mathlib.Core.Option.{Option, none, some}
-use mathlib.Core.List.{List, [], _∷_, _++_, append-assoc}
-use lib.Dec.{eqb, ltb, leb}
-use lib.ListN.{length, take, drop, getD, set, length-append, length-drop, length-set, drop-of-length-le}
-use mir.Syntax.{w8, w32, w64}
+use mathlib.Core.Bool.{Bool, true, false, cond}
+use mathlib.Core.List.{List, [], _∷_, _++_}
+use lib.Dec.{eqb}
+use lib.ListN.{length, drop, getD, set, length-append, length-set, drop-of-length-le}
+use mir.Syntax.{w64}
 use mir.Val.{Fits}
-use borrow.Author.Tests.{lt-ltb, le-ltb, eq-eqb, ne-eqb, eqb-true, eqb-false}
-use Rattle.octets.specs.Cases.{split, taken, tests}
-use Rattle.octets.specs.Octets.{octetAt, drop-next}
-use Rattle.octets.specs.Splice.{splice, splice-nil, splice-nil, length-splice, stored, stored-in}
-use Rattle.whole.specs.declared.Number.{Number}
-use Rattle.whole.specs.declared.Number.the-variants.{Is, Broken}
-use Rattle.whole.specs.Number.{numberOf}
-use Rattle.sheet.specs.Digits.{digitOf, digitsOf, placesOf, decimal, digits-long, places-few, places-more, decimal-few, decimal-more, by-digits, places-some, decimal-long}
-use Rattle.sheet.specs.Field.{quote, isMark, marked, twice, doubled, quoted, spelt, wholeBy, wholeIn, contentOf, tagField}
+use borrow.Author.Tests.{lt-ltb, le-ltb, eq-eqb, ne-eqb}
+use Rattle.octets.specs.Octets.{drop-next}
+use Rattle.octets.specs.Splice.{splice, splice-nil, splice-nil, stored, stored-in}
+use Rattle.sheet.specs.Digits.{digitOf, digitsOf, placesOf, digits-long, places-few, places-between}
+use Rattle.sheet.specs.Field.{isMark, marked, twice, doubled, quoted, spelt}
 use Rattle.sheet.specs.Marks.{last-test, spelt-plain, spelt-quoted, quoted-long}
-use Rattle.octets.specs.Splice.{splice-join}
 use Rattle.octets.specs.Stores.{splice-one, splice-last, laid, laid-one, laid-long}
 
 -- ---- digits
@@ -34,7 +28,8 @@ pub digit-high : (d : ℕ) → 10 ≤ d → 55 + d ≡ digitOf d
 unfolding digitOf
 digit-high d h = rw (le-ltb d 10 h)
 
-pub digits-start : (out : List ℕ) (at base k n : ℕ) → splice out at (digitsOf base k n) ≡ splice out at (digitsOf base k n)
+pub digits-start : (out : List ℕ) (at base k n : ℕ)
+    → splice out at (digitsOf base k n) ≡ splice out at (digitsOf base k n)
 digits-start out at base k n = refl
 
 digits-turn : (base x j : ℕ) → 0 < j → digitsOf base j x ≡ digitsOf base (j - 1) (x / base) ++ (digitOf (x % base) ∷ [])
@@ -42,7 +37,8 @@ unfolding digitsOf
 digits-turn base x zero h = absurd (omega arith)
 digits-turn base x (suc j) h = let e : suc j - 1 ≡ j = omega arith in rw e
 
-module _ (out d : List ℕ) (at base k n x j : ℕ) (inv : splice out at (digitsOf base j x) ≡ splice d at (digitsOf base k n)) where
+module _ (out d : List ℕ) (at base k n x j : ℕ)
+    (inv : splice out at (digitsOf base j x) ≡ splice d at (digitsOf base k n)) where
   pub digits-step : (r : ℕ) → 0 < j → j ≤ k → length out ≡ length d → at + k ≤ length d → r ≡ digitOf (x % base)
       → splice (set out (at + (j - 1)) r) at (digitsOf base (j - 1) (x / base)) ≡ splice d at (digitsOf base k n)
   digits-step r h l m q e =
@@ -64,20 +60,25 @@ digits-kept out d i r e = length-set out i r ∙ e
 
 pub ruleset digitCases = (digit-low, digit-high, digits-start, digits-step, digits-end, digits-kept, digit-below)
 
-pub places-start : (n : ℕ) → 1 + placesOf n ≡ placesOf n + 1
-places-start n = omega arith
+pub places-one : (n : ℕ) → n < 10 → 1 ≡ placesOf n
+places-one n h = sym (places-few n h)
 
-module _ (n x k : ℕ) (inv : k + placesOf x ≡ placesOf n + 1) where
-  pub places-step : 9 < x → k + 1 + placesOf (x / 10) ≡ placesOf n + 1
-  places-step h = let e = places-more x (omega arith) in omega arith
+pub places-start : (n : ℕ) → 10 ≤ n → 10 ^ (2 - 1) ≤ n
+places-start n h = h
 
-  pub places-fit : n < 2 ^ 32 → 9 < x → Fits w64 (k + 1)
-  places-fit h l = record { fits = let p = places-some x in let q = places-some n in omega (arith, p .0, q .1) }
+module _ (n k least : ℕ) (inv : least ≡ 10 ^ k) where
+  pub places-more-than : least ≤ n → 10 ^ (k + 1 - 1) ≤ n
+  places-more-than h = let e : k + 1 - 1 ≡ k = omega arith in rw (e, ← inv) h
 
-  pub places-end : x ≤ 9 → k ≡ placesOf n
-  places-end h = let e = places-few x (omega arith) in omega arith
+  pub places-step : least * 10 ≡ 10 ^ (k + 1)
+  places-step = rw (inv, add-one k) (sym (pow-suc 10 k))
 
-pub ruleset placeCases = (places-start, places-step, places-fit, places-end)
+  pub places-end : 1 ≤ k → 10 ^ (k - 1) ≤ n → n < least → k ≡ placesOf n
+  places-end s h l =
+      let e : suc (k - 1) ≡ k = omega arith in
+      sym (places-between (k - 1) n h (rw (e, ← inv) l) ∙ e)
+
+pub ruleset placeCases = (places-one, places-start, places-more-than, places-step, places-end)
 
 -- ---- marks
 
@@ -127,7 +128,8 @@ doubled-next : (s : List ℕ) (i : ℕ) → i < length s → doubled (drop i s) 
 unfolding doubled
 doubled-next s i h = rw (drop-next s i h)
 
-doubled-longer : (s : List ℕ) (i : ℕ) → i < length s → length (doubled (drop i s)) ≡ length (twice (getD s i 0)) + length (doubled (drop (i + 1) s))
+doubled-longer : (s : List ℕ) (i : ℕ) → i < length s
+    → length (doubled (drop i s)) ≡ length (twice (getD s i 0)) + length (doubled (drop (i + 1) s))
 doubled-longer s i h = ap length (doubled-next s i h) ∙ length-append (twice (getD s i 0)) (doubled (drop (i + 1) s))
 
 doubled-last : (s : List ℕ) (i : ℕ) → length s ≤ i → doubled (drop i s) ≡ []
@@ -135,7 +137,8 @@ unfolding doubled
 doubled-last s i h = rw (drop-of-length-le s {i = i} h)
 
 module _ (s : List ℕ) (i k : ℕ) (inv : k + length (doubled (drop i s)) ≡ length (doubled s)) where
-  pub doubled-size-step : (r : ℕ) → i < length s → r ≡ length (twice (getD s i 0)) → k + r + length (doubled (drop (i + 1) s)) ≡ length (doubled s)
+  pub doubled-size-step : (r : ℕ) → i < length s → r ≡ length (twice (getD s i 0))
+      → k + r + length (doubled (drop (i + 1) s)) ≡ length (doubled s)
   doubled-size-step r h e = let z = doubled-longer s i h in omega arith
 
   pub doubled-size-end : length s ≤ i → k ≡ length (doubled s)
@@ -156,25 +159,38 @@ module _ (s : List ℕ) (b : Bool) (e : b ≡ marked s) where
   pub string-size-plain : b ≡ false → length s ≡ length (spelt s)
   string-size-plain z = rw (plain z)
 
-  pub put-string-room : (at : ℕ) (d : List ℕ) → b ≡ true → at + length (spelt s) ≤ length d → at + length (quoted s) ≤ length d
+  pub put-string-room : (at : ℕ) (d : List ℕ) → b ≡ true → at + length (spelt s) ≤ length d
+      → at + length (quoted s) ≤ length d
   put-string-room at d z h = rw (in-quotes z) at h
 
   pub put-string-end : (at r : ℕ) → b ≡ true → r ≡ at + length (quoted s) → r ≡ at + length (spelt s)
   put-string-end at r z q = rw (in-quotes z) q
 
-  pub put-string-quoted : (d out : List ℕ) (at : ℕ) → b ≡ true → out ≡ splice d at (quoted s) → out ≡ splice d at (spelt s)
+  pub put-string-quoted : (d out : List ℕ) (at : ℕ) → b ≡ true → out ≡ splice d at (quoted s)
+      → out ≡ splice d at (spelt s)
   put-string-quoted d out at z q = rw (in-quotes z) q
 
-  pub put-string-fits : (at : ℕ) (d : List ℕ) → b ≡ false → at + length (spelt s) ≤ length d → length d < 2 ^ 64 → Fits w64 (at + length s)
+  pub put-string-fits : (at : ℕ) (d : List ℕ) → b ≡ false → at + length (spelt s) ≤ length d → length d < 2 ^ 64
+      → Fits w64 (at + length s)
   put-string-fits at d z h l = record { fits = let y = rw (plain z) at h in omega arith }
 
-  pub put-string-plain : (d out : List ℕ) (at : ℕ) → b ≡ false → at + length (spelt s) ≤ length d → out ≡ stored d at s → out ≡ splice d at (spelt s)
+  pub put-string-plain : (d out : List ℕ) (at : ℕ) → b ≡ false → at + length (spelt s) ≤ length d → out ≡ stored d at s
+      → out ≡ splice d at (spelt s)
   put-string-plain d out at z h q = rw (plain z) (q ∙ stored-in d at s (rw (plain z) at h))
 
   pub put-string-length : (at : ℕ) → b ≡ false → at + length s ≡ at + length (spelt s)
   put-string-length at z = rw (plain z)
 
-pub ruleset stringCases = (string-size-quoted, string-size-plain, put-string-room, put-string-end, put-string-quoted, put-string-fits, put-string-plain, put-string-length)
+pub ruleset stringCases = (
+  string-size-quoted,
+  string-size-plain,
+  put-string-room,
+  put-string-end,
+  put-string-quoted,
+  put-string-fits,
+  put-string-plain,
+  put-string-length,
+)
 
 -- ---- stores of strings
 
@@ -191,29 +207,36 @@ twice-room d at x h = let z = twice-some x in omega arith
 pub twice-room-two : (d : List ℕ) (at x : ℕ) → x ≡ 34 → at + length (twice x) ≤ length d → at + 1 < length d
 twice-room-two d at x e h = let z = twice-two x e in omega arith
 
-pub twice-put-one : (d : List ℕ) (at x : ℕ) → (x ≡ 34 → ⊥) → at + length (twice x) ≤ length d → set d at x ≡ splice d at (twice x)
+pub twice-put-one : (d : List ℕ) (at x : ℕ) → (x ≡ 34 → ⊥) → at + length (twice x) ≤ length d
+    → set d at x ≡ splice d at (twice x)
 twice-put-one d at x e h = rw (ne-eqb x 34 e) (splice-one d at x (twice-room d at x h))
 
-pub twice-put-two : (d : List ℕ) (at x : ℕ) → x ≡ 34 → at + length (twice x) ≤ length d → set (set d at x) (at + 1) 34 ≡ splice d at (twice x)
+pub twice-put-two : (d : List ℕ) (at x : ℕ) → x ≡ 34 → at + length (twice x) ≤ length d
+    → set (set d at x) (at + 1) 34 ≡ splice d at (twice x)
 twice-put-two d at x e h =
     let k = twice-room-two d at x e h in
     let l = length-set d at x in
-    rw (eq-eqb x 34 e) (splice-one (set d at x) (at + 1) 34 (omega arith) ∙ laid-one d x (34 ∷ []) at (omega arith) ∙ ap (λ (y : ℕ). splice d at (y ∷ 34 ∷ [])) e)
+    rw (eq-eqb x 34 e)
+    (splice-one (set d at x) (at + 1) 34 (omega arith) ∙ laid-one d x (34 ∷ []) at (omega arith)
+    ∙ ap (λ (y : ℕ). splice d at (y ∷ 34 ∷ [])) e)
 
 pub ruleset twiceCases = (twice-one, twice-two, twice-room, twice-room-two, twice-put-one, twice-put-two)
 
 -- s is put behind what stands before at; i octets of it are done, up to k
-module _ (out d s : List ℕ) (at i k : ℕ) (inv : splice out k (doubled (drop i s)) ≡ splice d at (doubled s)) (many : k + length (doubled (drop i s)) ≡ at + length (doubled s))
+module _ (out d s : List ℕ) (at i k : ℕ) (inv : splice out k (doubled (drop i s)) ≡ splice d at (doubled s))
+    (many : k + length (doubled (drop i s)) ≡ at + length (doubled s))
     (long : length out ≡ length d) (room : at + length (doubled s) ≤ length d) where
   module _ (h : i < length s) where
     pub doubled-room : k + length (twice (getD s i 0)) ≤ length out
     doubled-room = let z = doubled-longer s i h in omega arith
 
-    module _ (new : List ℕ) (q : new ≡ splice out k (twice (getD s i 0))) (r : ℕ) (e : r ≡ length (twice (getD s i 0))) where
+    module _ (new : List ℕ) (q : new ≡ splice out k (twice (getD s i 0))) (r : ℕ)
+        (e : r ≡ length (twice (getD s i 0))) where
       pub doubled-step : splice new (k + r) (doubled (drop (i + 1) s)) ≡ splice d at (doubled s)
       doubled-step =
           let z = doubled-longer s i h in
-          laid out new (twice (getD s i 0)) (doubled (drop (i + 1) s)) k (k + r) q (ap (λ (x : ℕ). k + x) e) (omega arith) ∙ ap (splice out k) (sym (doubled-next s i h)) ∙ inv
+          laid out new (twice (getD s i 0)) (doubled (drop (i + 1) s)) k (k + r) q (ap (λ (x : ℕ). k + x) e)
+          (omega arith) ∙ ap (splice out k) (sym (doubled-next s i h)) ∙ inv
 
       pub doubled-kept : length new ≡ length d
       doubled-kept = laid-long out new (twice (getD s i 0)) k q doubled-room ∙ long
@@ -221,7 +244,8 @@ module _ (out d s : List ℕ) (at i k : ℕ) (inv : splice out k (doubled (drop 
     pub doubled-fits : (r : ℕ) → r ≡ length (twice (getD s i 0)) → length d < 2 ^ 64 → Fits w64 (k + r)
     doubled-fits r e l = record { fits = let z = doubled-longer s i h in omega arith }
 
-    pub doubled-many : (r : ℕ) → r ≡ length (twice (getD s i 0)) → k + r + length (doubled (drop (i + 1) s)) ≡ at + length (doubled s)
+    pub doubled-many : (r : ℕ) → r ≡ length (twice (getD s i 0))
+        → k + r + length (doubled (drop (i + 1) s)) ≡ at + length (doubled s)
     doubled-many r e = let z = doubled-longer s i h in omega arith
 
   pub doubled-done : length s ≤ i → out ≡ splice d at (doubled s)
@@ -230,7 +254,8 @@ module _ (out d s : List ℕ) (at i k : ℕ) (inv : splice out k (doubled (drop 
   pub doubled-end : length s ≤ i → k ≡ at + length (doubled s)
   doubled-end h = let z = ap length (doubled-last s i h) in omega arith
 
-pub ruleset doubledCases = (doubled-room, doubled-step, doubled-kept, doubled-fits, doubled-many, doubled-done, doubled-end)
+pub ruleset doubledCases =
+    (doubled-room, doubled-step, doubled-kept, doubled-fits, doubled-many, doubled-done, doubled-end)
 
 module _ (d s : List ℕ) (at : ℕ) (room : at + length (quoted s) ≤ length d) where
   pub quoted-first : at < length d
@@ -242,7 +267,8 @@ module _ (d s : List ℕ) (at : ℕ) (room : at + length (quoted s) ≤ length d
   pub quoted-fits : length d < 2 ^ 64 → Fits w64 (at + 1)
   quoted-fits l = record { fits = let z = quoted-long s in omega arith }
 
-  module _ (new : List ℕ) (end : ℕ) (q : new ≡ splice (set d at 34) (at + 1) (doubled s)) (e : end ≡ at + 1 + length (doubled s)) where
+  module _ (new : List ℕ) (end : ℕ) (q : new ≡ splice (set d at 34) (at + 1) (doubled s))
+      (e : end ≡ at + 1 + length (doubled s)) where
     pub quoted-kept : length new ≡ length d
     quoted-kept = laid-long (set d at 34) new (doubled s) (at + 1) q quoted-room ∙ length-set d at 34
 
@@ -254,7 +280,8 @@ module _ (d s : List ℕ) (at : ℕ) (room : at + length (quoted s) ≤ length d
     quoted-put =
         let z = quoted-long s in
         let l = length-set d at 34 in
-        splice-one new end 34 quoted-last ∙ laid (set d at 34) new (doubled s) (34 ∷ []) (at + 1) end q e (omega arith) ∙ laid-one d 34 (doubled s ++ (34 ∷ [])) at (rw (length-append (doubled s) (34 ∷ [])) (omega arith))
+        splice-one new end 34 quoted-last ∙ laid (set d at 34) new (doubled s) (34 ∷ []) (at + 1) end q e (omega arith)
+        ∙ laid-one d 34 (doubled s ++ (34 ∷ [])) at (rw (length-append (doubled s) (34 ∷ [])) (omega arith))
 
   pub quoted-end : (end : ℕ) → end ≡ at + 1 + length (doubled s) → end + 1 ≡ at + length (quoted s)
   quoted-end end e = let z = quoted-long s in omega arith
@@ -262,4 +289,5 @@ module _ (d s : List ℕ) (at : ℕ) (room : at + length (quoted s) ≤ length d
   pub quoted-end-fits : (end : ℕ) → end ≡ at + 1 + length (doubled s) → length d < 2 ^ 64 → Fits w64 (end + 1)
   quoted-end-fits end e l = record { fits = let z = quoted-long s in omega arith }
 
-pub ruleset quotedCases = (quoted-first, quoted-room, quoted-fits, quoted-kept, quoted-last, quoted-put, quoted-end, quoted-end-fits)
+pub ruleset quotedCases =
+    (quoted-first, quoted-room, quoted-fits, quoted-kept, quoted-last, quoted-put, quoted-end, quoted-end-fits)

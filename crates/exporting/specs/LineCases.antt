@@ -72,21 +72,27 @@ end-at gs j =
     (λ h. rw (drop-of-length-le gs {i = j} h, le-ltb j (length gs) h))
 
 module _ (fs : List (List ℕ)) (i : ℕ) where
-  line-next : i < length fs → lineOf (drop i fs) ≡ fieldIs fs i ++ (cond (ltb (i + 1) (length fs)) 44 13 ∷ lineOf (drop (i + 1) fs))
+  line-next : i < length fs
+      → lineOf (drop i fs) ≡ fieldIs fs i ++ (cond (ltb (i + 1) (length fs)) 44 13 ∷ lineOf (drop (i + 1) fs))
   unfolding lineOf fieldIs
-  line-next h = rw (drop-cons fs i [] h, add-one i) (ap (λ (e : ℕ). getD fs i [] ++ (e ∷ lineOf (drop (suc i) fs))) (end-at fs (suc i)))
+  line-next h = rw (drop-cons fs i [] h, add-one i)
+      (ap (λ (e : ℕ). getD fs i [] ++ (e ∷ lineOf (drop (suc i) fs))) (end-at fs (suc i)))
 
-  line-longer : i < length fs → length (lineOf (drop i fs)) ≡ length (fieldIs fs i) + 1 + length (lineOf (drop (i + 1) fs))
+  line-longer : i < length fs
+      → length (lineOf (drop i fs)) ≡ length (fieldIs fs i) + 1 + length (lineOf (drop (i + 1) fs))
   line-longer h =
-      ap length (line-next h) ∙ length-append (fieldIs fs i) (cond (ltb (i + 1) (length fs)) 44 13 ∷ lineOf (drop (i + 1) fs)) ∙ omega arith
+      ap length (line-next h) ∙ length-append (fieldIs fs i)
+      (cond (ltb (i + 1) (length fs)) 44 13 ∷ lineOf (drop (i + 1) fs)) ∙ omega arith
 
   line-last : length fs ≤ i → lineOf (drop i fs) ≡ 10 ∷ []
   unfolding lineOf
   line-last h = rw (drop-of-length-le fs {i = i} h)
 
 -- its size
-module _ (fs : List (List ℕ)) (n : ℕ) (many : n ≡ length fs) (i k : ℕ) (inv : k + length (lineOf (drop i fs)) ≡ length (lineOf fs) + 1) where
-  pub line-size-step : (f : List ℕ) (r : ℕ) → i < n → r ≡ length f → f ≡ fieldIs fs i → k + (r + 1) + length (lineOf (drop (i + 1) fs)) ≡ length (lineOf fs) + 1
+module _ (fs : List (List ℕ)) (n : ℕ) (many : n ≡ length fs) (i k : ℕ)
+    (inv : k + length (lineOf (drop i fs)) ≡ length (lineOf fs) + 1) where
+  pub line-size-step : (f : List ℕ) (r : ℕ) → i < n → r ≡ length f → f ≡ fieldIs fs i
+      → k + (r + 1) + length (lineOf (drop (i + 1) fs)) ≡ length (lineOf fs) + 1
   line-size-step f r h e q = let z = line-longer fs i (omega arith) in let y = ap length q in omega arith
 
   pub line-size-end : n ≤ i → k ≡ length (lineOf fs)
@@ -100,27 +106,35 @@ unfolding ended
 ended-long f i n = length-append f (cond (ltb (i + 1) n) 44 13 ∷ [])
 
 -- its octets: d as it was lent, out as it is
-module _ (fs : List (List ℕ)) (i k at : ℕ) (out d : List ℕ) (inv : splice out k (lineOf (drop i fs)) ≡ splice d at (lineOf fs))
-    (rest : k + length (lineOf (drop i fs)) ≡ at + length (lineOf fs)) (long : length out ≡ length d) (room : at + length (lineOf fs) ≤ length d) (n : ℕ) where
+module _ (fs : List (List ℕ)) (i k at : ℕ) (out d : List ℕ)
+    (inv : splice out k (lineOf (drop i fs)) ≡ splice d at (lineOf fs))
+    (rest : k + length (lineOf (drop i fs)) ≡ at + length (lineOf fs)) (long : length out ≡ length d)
+    (room : at + length (lineOf fs) ≤ length d) (n : ℕ) where
   module _ (h : i < n) (many : n ≡ length fs) where
     piece : (f : List ℕ) → f ≡ fieldIs fs i → lineOf (drop i fs) ≡ ended f i n ++ lineOf (drop (i + 1) fs)
     unfolding ended
-    piece f q = rw (q, many) (line-next fs i (omega arith) ∙ sym (append-snoc (fieldIs fs i) (cond (ltb (i + 1) (length fs)) 44 13) (lineOf (drop (i + 1) fs))))
+    piece f q =
+        rw (q, many)
+        (line-next fs i (omega arith)
+        ∙ sym (append-snoc (fieldIs fs i) (cond (ltb (i + 1) (length fs)) 44 13) (lineOf (drop (i + 1) fs))))
 
-    piece-long : (f : List ℕ) → f ≡ fieldIs fs i → length (lineOf (drop i fs)) ≡ length (ended f i n) + length (lineOf (drop (i + 1) fs))
+    piece-long : (f : List ℕ) → f ≡ fieldIs fs i
+        → length (lineOf (drop i fs)) ≡ length (ended f i n) + length (lineOf (drop (i + 1) fs))
     piece-long f q = ap length (piece f q) ∙ length-append (ended f i n) (lineOf (drop (i + 1) fs))
 
     pub line-room : (f : List ℕ) → f ≡ fieldIs fs i → k + length (ended f i n) ≤ length out
     line-room f q = let z = piece-long f q in omega arith
 
-    module _ (new f : List ℕ) (to : ℕ) (p : new ≡ splice out k (ended f i n)) (e : to ≡ k + length (ended f i n)) (q : f ≡ fieldIs fs i) where
+    module _ (new f : List ℕ) (to : ℕ) (p : new ≡ splice out k (ended f i n)) (e : to ≡ k + length (ended f i n))
+        (q : f ≡ fieldIs fs i) where
       pub line-kept : length new ≡ length d
       line-kept = laid-long out new (ended f i n) k p (line-room f q) ∙ long
 
       pub line-step : splice new to (lineOf (drop (i + 1) fs)) ≡ splice d at (lineOf fs)
       line-step =
           let z = piece-long f q in
-          laid out new (ended f i n) (lineOf (drop (i + 1) fs)) k to p e (omega arith) ∙ ap (splice out k) (sym (piece f q)) ∙ inv
+          laid out new (ended f i n) (lineOf (drop (i + 1) fs)) k to p e (omega arith)
+          ∙ ap (splice out k) (sym (piece f q)) ∙ inv
 
   module _ (h : n ≤ i) (many : n ≡ length fs) where
     pub line-close-room : k < length out
@@ -135,8 +149,10 @@ module _ (fs : List (List ℕ)) (i k at : ℕ) (out d : List ℕ) (inv : splice 
     pub line-close-fits : length d < 2 ^ 64 → Fits w64 (k + 1)
     line-close-fits l = record { fits = let z = line-close-room in omega arith }
 
-pub line-rest : (fs : List (List ℕ)) (i k at : ℕ) → k + length (lineOf (drop i fs)) ≡ at + length (lineOf fs) → (n : ℕ) → i < n → n ≡ length fs
-    → (f : List ℕ) (to : ℕ) → to ≡ k + length (ended f i n) → f ≡ fieldIs fs i → to + length (lineOf (drop (i + 1) fs)) ≡ at + length (lineOf fs)
+pub line-rest : (fs : List (List ℕ)) (i k at : ℕ) → k + length (lineOf (drop i fs)) ≡ at + length (lineOf fs) → (n : ℕ)
+    → i < n → n ≡ length fs
+    → (f : List ℕ) (to : ℕ) → to ≡ k + length (ended f i n) → f ≡ fieldIs fs i
+    → to + length (lineOf (drop (i + 1) fs)) ≡ at + length (lineOf fs)
 line-rest fs i k at rest n h many f to e q =
     let z = line-longer fs i (omega arith) in
     let y = ap length q in
@@ -145,7 +161,8 @@ line-rest fs i k at rest n h many f to e q =
 
 pub ruleset lineSizes = (line-size-start, line-size-step, line-size-end)
 
-pub ruleset lineCases = (line-room, line-rest, line-kept, line-step, line-close-room, line-close, line-close-at, line-close-fits)
+pub ruleset lineCases =
+    (line-room, line-rest, line-kept, line-step, line-close-room, line-close, line-close-at, line-close-fits)
 
 -- ---- the fields of a record, and of the tags
 
@@ -163,7 +180,8 @@ unfolding chosenFields fieldIs
 field-at xs edges [] places i h = absurd (omega arith)
 field-at xs edges (t ∷ tags) places zero h = refl
 field-at xs edges (t ∷ tags) places (suc i) h =
-    let e : getD (drop 1 places) i 0 ≡ getD places (suc i) 0 = getD-drop 1 places i 0 ∙ ap (λ (k : ℕ). getD places k 0) (omega arith) in
+    let e : getD (drop 1 places) i 0 ≡ getD places (suc i) 0 = getD-drop 1 places i 0
+    ∙ ap (λ (k : ℕ). getD places k 0) (omega arith) in
     rw e at (field-at xs edges tags (drop 1 places) i (omega arith))
 
 pub chosen-at : (xs edges tags places : List ℕ) (i c : ℕ) → i < length tags → c ≡ getD places i 0
@@ -210,7 +228,8 @@ module _ (d : List ℕ) (at : ℕ) (f : List ℕ) (i n : ℕ) (room : at + lengt
     ended-put v w =
         let z = ended-long f i n in
         let l = ended-kept in
-        splice-one new to v ended-end ∙ laid d new f (v ∷ []) at to p e (omega arith) ∙ ap (λ (x : ℕ). splice d at (f ++ (x ∷ []))) w
+        splice-one new to v ended-end ∙ laid d new f (v ∷ []) at to p e (omega arith)
+        ∙ ap (λ (x : ℕ). splice d at (f ++ (x ∷ []))) w
 
   pub ended-to : (to : ℕ) → to ≡ at + length f → to + 1 ≡ at + length (ended f i n)
   ended-to to e = let z = ended-long f i n in omega arith
@@ -226,7 +245,8 @@ module _ (xs edges tags places : List ℕ) (d : List ℕ) (at i c : ℕ) (e : c 
   pub put-ended-room : at + length (fieldAt xs edges (getD tags i 0) c) ≤ length d
   put-ended-room = ended-room d at (fieldAt xs edges (getD tags i 0) c) i (length tags) chosen-ended-room
 
-  module _ (new : List ℕ) (to : ℕ) (p : new ≡ splice d at (fieldAt xs edges (getD tags i 0) c)) (q : to ≡ at + length (fieldAt xs edges (getD tags i 0) c)) where
+  module _ (new : List ℕ) (to : ℕ) (p : new ≡ splice d at (fieldAt xs edges (getD tags i 0) c))
+      (q : to ≡ at + length (fieldAt xs edges (getD tags i 0) c)) where
     pub put-ended-kept : length new ≡ length d
     put-ended-kept = ended-kept d at (fieldAt xs edges (getD tags i 0) c) i (length tags) chosen-ended-room new to p q
 
@@ -234,9 +254,11 @@ module _ (xs edges tags places : List ℕ) (d : List ℕ) (at i c : ℕ) (e : c 
     put-ended-end = ended-end d at (fieldAt xs edges (getD tags i 0) c) i (length tags) chosen-ended-room new to p q
 
     pub put-ended-fits : length d < 2 ^ 64 → Fits w64 (to + 1)
-    put-ended-fits l = ended-fits d at (fieldAt xs edges (getD tags i 0) c) i (length tags) chosen-ended-room new to p q l
+    put-ended-fits l = ended-fits d at (fieldAt xs edges (getD tags i 0) c) i
+        (length tags) chosen-ended-room new to p q l
 
-    pub put-ended-put : (v : ℕ) → v ≡ cond (ltb (i + 1) (length tags)) 44 13 → set new to v ≡ splice d at (ended (fieldAt xs edges (getD tags i 0) (getD places i 0)) i (length tags))
+    pub put-ended-put : (v : ℕ) → v ≡ cond (ltb (i + 1) (length tags)) 44 13
+        → set new to v ≡ splice d at (ended (fieldAt xs edges (getD tags i 0) (getD places i 0)) i (length tags))
     put-ended-put v w =
         ended-put d at (fieldAt xs edges (getD tags i 0) c) i (length tags) chosen-ended-room new to p q v w
         ∙ ap (λ (x : ℕ). splice d at (ended (fieldAt xs edges (getD tags i 0) x) i (length tags))) e
@@ -247,18 +269,31 @@ module _ (xs edges tags places : List ℕ) (d : List ℕ) (at i c : ℕ) (e : c 
         ∙ ap (λ (x : ℕ). at + length (ended (fieldAt xs edges (getD tags i 0) x) i (length tags))) e
 
 -- a turn of the loop over the chosen fields
-module _ (xs edges tags places : List ℕ) (i k at : ℕ) (rest : k + length (lineOf (drop i (chosenFields xs edges tags places))) ≡ at + length (lineOf (chosenFields xs edges tags places)))
-    (h : i < length tags) (to : ℕ) (e : to ≡ k + length (ended (fieldAt xs edges (getD tags i 0) (getD places i 0)) i (length tags))) where
-  pub chosen-rest : to + length (lineOf (drop (i + 1) (chosenFields xs edges tags places))) ≡ at + length (lineOf (chosenFields xs edges tags places))
-  chosen-rest = line-rest (chosenFields xs edges tags places) i k at rest (length tags) h (chosen-long xs edges tags places) (fieldAt xs edges (getD tags i 0) (getD places i 0)) to e (field-at xs edges tags places i h)
+module _ (xs edges tags places : List ℕ) (i k at : ℕ)
+    (rest : k + length (lineOf (drop i (chosenFields xs edges tags places)))
+    ≡ at + length (lineOf (chosenFields xs edges tags places)))
+    (h : i < length tags) (to : ℕ)
+    (e : to ≡ k + length (ended (fieldAt xs edges (getD tags i 0) (getD places i 0)) i (length tags))) where
+  pub chosen-rest : to + length (lineOf (drop (i + 1) (chosenFields xs edges tags places)))
+      ≡ at + length (lineOf (chosenFields xs edges tags places))
+  chosen-rest = line-rest (chosenFields xs edges tags places) i k at rest (length tags) h
+      (chosen-long xs edges tags places) (fieldAt xs edges (getD tags i 0) (getD places i 0)) to e
+      (field-at xs edges tags places i h)
 
-  module _ (out d : List ℕ) (inv : splice out k (lineOf (drop i (chosenFields xs edges tags places))) ≡ splice d at (lineOf (chosenFields xs edges tags places)))
-      (long : length out ≡ length d) (room : at + length (lineOf (chosenFields xs edges tags places)) ≤ length d) (new : List ℕ)
+  module _ (out d : List ℕ)
+      (inv : splice out k (lineOf (drop i (chosenFields xs edges tags places)))
+      ≡ splice d at (lineOf (chosenFields xs edges tags places)))
+      (long : length out ≡ length d) (room : at + length (lineOf (chosenFields xs edges tags places)) ≤ length d)
+      (new : List ℕ)
       (p : new ≡ splice out k (ended (fieldAt xs edges (getD tags i 0) (getD places i 0)) i (length tags))) where
-    pub chosen-step : splice new to (lineOf (drop (i + 1) (chosenFields xs edges tags places))) ≡ splice d at (lineOf (chosenFields xs edges tags places))
-    chosen-step = line-step (chosenFields xs edges tags places) i k at out d inv rest long room (length tags) h (chosen-long xs edges tags places) new (fieldAt xs edges (getD tags i 0) (getD places i 0)) to p e (field-at xs edges tags places i h)
+    pub chosen-step : splice new to (lineOf (drop (i + 1) (chosenFields xs edges tags places)))
+        ≡ splice d at (lineOf (chosenFields xs edges tags places))
+    chosen-step = line-step (chosenFields xs edges tags places) i k at out d inv rest long room (length tags) h
+        (chosen-long xs edges tags places) new (fieldAt xs edges (getD tags i 0) (getD places i 0)) to p e
+        (field-at xs edges tags places i h)
 
 pub ruleset putEnded = (put-ended-room, put-ended-kept, put-ended-end, put-ended-fits, put-ended-put, put-ended-to)
 
-pub tag-ended-room : (d : List ℕ) (at tag i n : ℕ) → at + length (ended (tagField tag) i n) ≤ length d → at + 8 ≤ length d
+pub tag-ended-room : (d : List ℕ) (at tag i n : ℕ) → at + length (ended (tagField tag) i n) ≤ length d
+    → at + 8 ≤ length d
 tag-ended-room d at tag i n h = tag-room d at tag (ended-room d at (tagField tag) i n h)

@@ -41,7 +41,8 @@ ended f i n = f ++ (cond (ltb (i + 1) n) comma cr ∷ [])
 
 unfoldable pub chosenFields : List ℕ → List ℕ → List ℕ → List ℕ → List (List ℕ)
 chosenFields xs edges [] places = []
-chosenFields xs edges (t ∷ tags) places = fieldAt xs edges t (getD places 0 0) ∷ chosenFields xs edges tags (drop 1 places)
+chosenFields xs edges (t ∷ tags) places =
+    fieldAt xs edges t (getD places 0 0) ∷ chosenFields xs edges tags (drop 1 places)
 
 abbrev pub lineBy : List ℕ → List ℕ → List ℕ → List ℕ → List ℕ
 lineBy xs edges tags places = lineOf (chosenFields xs edges tags places)
@@ -77,7 +78,8 @@ placesFor cols tags = placesIn cols tags ++ replicate (mostChosen - length tags)
 
 unfoldable pub sheetFrom : List ℕ → Columns → List ℕ → ℕ → ℕ → List ℕ
 sheetFrom xs columns tags n at =
-    sheetBy xs (take (columns .count) (columns .forms)) tags (placesIn (take (columns .count) (columns .tags)) tags) n at
+    sheetBy xs (take (columns .count) (columns .forms)) tags
+    (placesIn (take (columns .count) (columns .tags)) tags) n at
 
 abbrev pub choiceFrom : Columns → List ℕ → Verdict
 choiceFrom columns tags = choiceAt (take (columns .count) (columns .tags)) tags

@@ -1,8 +1,8 @@
 -- The sheet in the steps of the code is the sheet of the book's table.
-use Prim.Native.Nat.{ℕ, zero, suc, _+_, _-_, _%_, _≤_, _<_}
+use Prim.Native.Nat.{ℕ, _+_, _-_, _%_, _≤_, _<_}
 use native.Mathlib.Omega.{arith}
 use mathlib.Core.Path.{_≡_, refl, sym, ap, ap₂, _∙_}
-use mathlib.Core.Bool.{Bool, true, false, cond}
+use mathlib.Core.Bool.{true}
 use mathlib.Core.Option.{Option, none, some}
 use mathlib.Core.List.{List, [], _∷_, _++_}
 use lib.ListN.{length, drop, getD, replicate, length-append, length-drop, length-replicate}
@@ -20,7 +20,7 @@ use Rattle.table.specs.Found.{isFound}
 use Rattle.table.specs.declared.Found.{Found}
 use Rattle.table.specs.declared.Found.the-variants.{At, Nothing}
 use Rattle.entry.specs.Present.{Row}
-use Rattle.entry.specs.Record.{Slot, noSlot, rowOctets, SoundEntry, SoundRow, row-size, row-long, sound-entry, unlike}
+use Rattle.entry.specs.Record.{Slot, noSlot, rowOctets, SoundEntry, SoundRow, row-size, sound-entry, unlike}
 use Rattle.entry.specs.Values.{entryOctets}
 use Rattle.entry.specs.Slots.{slotsFrom, slots-many}
 use Rattle.edges.specs.Edges.{mostEdges, edgesIn, row-cell}
@@ -36,7 +36,7 @@ use Rattle.lookup.specs.Named.{valueIn}
 use Rattle.lookup.specs.Read.{rows-stand}
 use Rattle.sheet.specs.Field.{fieldOf, fieldsOf, codesOf, lineOf, linesOf, tagFields, sheetOf}
 use Rattle.exporting.specs.Export.{chosenOf, selectedOf, selected, sheetIn, allKnown}
-use Rattle.exporting.specs.Steps.{fieldFor, fieldAt, chosenFields, lineBy, edgesOver, linesBy, sheetBy, placeOf}
+use Rattle.exporting.specs.Steps.{fieldFor, fieldAt, chosenFields, edgesOver, linesBy, sheetBy, placeOf}
 use Rattle.exporting.specs.Steps.{placesIn}
 
 -- ---- a tag that is known has a column

@@ -1,9 +1,10 @@
--- What a sheet tells, in the buyer's words: read back, it gives of each record the value under each chosen whole tag, and
--- as many records as the book has; two books with the same sheet have the same values there. And what its length is for.
+-- What a sheet tells, in the buyer's words: read back, it gives of each record the value under each chosen whole tag,
+-- and as many records as the book has; two books with the same sheet have the same values there. And what its length is
+-- for.
 use Prim.Native.Nat.{ℕ, zero, suc, _%_, _≤_, _<_}
 use native.Mathlib.Omega.{arith}
 use mathlib.Core.Path.{_≡_, refl, sym, ap, _∙_}
-use mathlib.Core.Bool.{true, false}
+use mathlib.Core.Bool.{true}
 use mathlib.Core.Option.{Option, none, some}
 use mathlib.Core.List.{List, [], _∷_}
 use lib.Dec.{leb}
@@ -30,11 +31,11 @@ use Rattle.lookup.specs.Laws.{column-in, column-tag}
 use Rattle.lookup.specs.Places.{rowAt}
 use Rattle.lookup.specs.Named.{slotsUnder, slots-reach, valueIn, valueFor, row-sound, value-formed}
 use Rattle.lookup.specs.declared.Which.the-variants.{Number}
-use Rattle.sheet.specs.Field.{isExported, codesOf, sheetOf}
+use Rattle.sheet.specs.Field.{isExported, codesOf}
 use Rattle.sheet.specs.Reading.{rowsIn}
 use Rattle.sheet.specs.Values.{freeSlot}
 use Rattle.sheet.specs.One.{freeSlots, Exported, SoundChoice, sheet-back}
-use Rattle.exporting.specs.Export.{chosenOf, selectedOf, selected, sheetIn, allKnown, allExported, mostChosen}
+use Rattle.exporting.specs.Export.{chosenOf, selectedOf, selected, sheetIn, allKnown, allExported}
 use Rattle.exporting.specs.Export.{choiceAt, sheetAt, exportAt, lengthAnswer, exportAnswer}
 
 -- ---- the selection of a sound book

@@ -2,6 +2,9 @@
 use crate::fields::field_size;
 use crate::fields::put_field;
 use crate::fields::put_tag;
+use crate::strings::COMMA;
+use crate::strings::CR;
+use crate::strings::LF;
 use edges::MOST_EDGES;
 use octets::word32;
 ghost use mathlib.Core.Path.{_≡_};
@@ -14,13 +17,7 @@ ghost use Rattle.answers.specs.Numbers.{mostRecords};
 ghost use Rattle.edges.specs.Edges.{mostEdges};
 ghost use Rattle.sheet.specs.Field.{comma, cr, tagField, tagFields, lineOf};
 ghost use Rattle.exporting.specs.Export.{mostChosen};
-ghost use Rattle.exporting.specs.Steps.{fieldAt, ended, lineBy, edgesOver, linesBy};
-
-const COMMA: u8 = 44;
-
-const CR: u8 = 13;
-
-const LF: u8 = 10;
+ghost use Rattle.exporting.specs.Steps.{fieldAt, ended, lineBy, linesBy};
 
 fn place(s: &[usize], i: usize) -> usize
     ensures { λ r. ⌜ r ≡ getD (now (s .entry)) i 0 ⌝ }
@@ -51,8 +48,8 @@ fn chosen_size(book: &[u8], edges: &[usize], tag: u32, c: usize) -> usize
 
 fn line_size(book: &[u8], edges: &[usize], tags: &[u32], places: &[usize]) -> usize
     requires { ⌜ (length (now book) < 2 ^ 32) × (length (now tags) ≤ mostChosen) ⌝ }
-    ensures { λ r. ⌜ (r ≡ length (lineBy (now (book .entry)) (now (edges .entry)) (now (tags .entry)) (now (places .entry))))
-        × (r < 2 ^ 40) ⌝ }
+    ensures { λ r. ⌜ (r ≡ length (lineBy (now (book .entry)) (now (edges .entry)) (now (tags .entry))
+        (now (places .entry)))) × (r < 2 ^ 40) ⌝ }
 {
     let mut k = 1;
     let mut i = 0;

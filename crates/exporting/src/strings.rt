@@ -7,11 +7,11 @@ ghost use Rattle.sheet.specs.Field.{isMark, marked, twice, doubled, quoted, spe
 
 const QUOTE: u8 = 34;
 
-const COMMA: u8 = 44;
+pub const COMMA: u8 = 44;
 
-const CR: u8 = 13;
+pub const CR: u8 = 13;
 
-const LF: u8 = 10;
+pub const LF: u8 = 10;
 
 fn is_mark(x: u8) -> bool
     ensures { λ r. ⌜ r ≡ isMark x ⌝ }
@@ -81,11 +81,11 @@ fn put_twice(out: &mut [u8], at: usize, x: u8) -> usize
     ensures { λ r. ⌜ (r ≡ length (twice x)) × (now (out .exit) ≡ splice (now (out .entry)) at (twice x)) ⌝ }
 {
     out[at] = x;
-    if x == QUOTE {
-        out[at + 1] = QUOTE;
-        return 2;
+    if x != QUOTE {
+        return 1;
     }
-    1
+    out[at + 1] = QUOTE;
+    2
 }
 
 fn put_doubled(out: &mut [u8], at: usize, s: &[u8]) -> usize

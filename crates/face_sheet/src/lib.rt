@@ -11,9 +11,9 @@ pub extern "C" fn wt_sheet_length(book: &[u8], tags: &[u32], out: &mut [u64; 2])
     ensures { λ r. ⌜ (r ≡ madeNumber (lengthAnswer (now (book .entry)) (now (tags .entry))))
         × (now (out .exit) ≡ madeNumbers (lengthAnswer (now (book .entry)) (now (tags .entry)))) ⌝ }
 {
-    let made = exporting::sheet_length(book, tags);
-    *out = made_numbers(made);
-    made_number(made)
+    let measured = exporting::sheet_length(book, tags);
+    *out = made_numbers(measured);
+    made_number(measured)
 }
 
 #[no_mangle]

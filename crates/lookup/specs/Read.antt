@@ -30,7 +30,7 @@ use Rattle.book.specs.Front.{firstPlace, firstIn}
 use Rattle.book.specs.FrontCases.{first-place}
 use Rattle.lookup.specs.Places.{walkTo, placeOf, placeIn, place-first, place-in, record-from}
 use Rattle.lookup.specs.Places.{head-from}
-use Rattle.lookup.specs.Named.{There, columnsFor, slotsUnder, rowFor, columns-sound, row-sound, hasRecord}
+use Rattle.lookup.specs.Named.{There, columnsFor, slotsUnder, rowFor, row-sound, hasRecord}
 use Rattle.lookup.specs.Named.{startFor}
 use Rattle.lookup.specs.declared.Which.{Which}
 use Rattle.lookup.specs.declared.Which.the-variants.{Header, Number}

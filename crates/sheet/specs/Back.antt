@@ -1,19 +1,18 @@
--- A field that was written is read back, whichever of its spellings stands there; so are a line and the lines of a sheet.
--- Assumes nothing.
+-- A field that was written is read back, whichever of its spellings stands there; so are a line and the lines of a
+-- sheet. Assumes nothing.
 use Prim.Native.Nat.{ℕ}
 use native.Mathlib.Omega.{arith}
 use native.Mathlib.Decide.{ℕ-discrete}
 use mathlib.Core.Path.{_≡_, refl, sym, ap, ap₂, _∙_}
 use mathlib.Core.Bool.{Bool, true, false, not, cond}
-use mathlib.Core.Option.{Option, none, some}
 use mathlib.Core.List.{List, [], _∷_, _++_, append-assoc, append-nil}
 use lib.Dec.{eqb}
 use lib.Seq.{append-snoc}
-use borrow.Author.Tests.{eqb-true, eq-eqb, ne-eqb}
+use borrow.Author.Tests.{eqb-true, ne-eqb}
 use Rattle.octets.specs.Cases.{taken}
 use Rattle.entry.specs.Present.{Row}
 use Rattle.entry.specs.Record.{unlike}
-use Rattle.sheet.specs.Field.{quote, comma, cr, lf, isMark, marked, doubled, quoted, spelt, contentOf, fieldOf}
+use Rattle.sheet.specs.Field.{quote, lf, isMark, marked, doubled, quoted, spelt, contentOf}
 use Rattle.sheet.specs.Field.{fieldsOf, endOf, lineOf, codesOf, tagFields, linesOf, sheetOf}
 use Rattle.sheet.specs.Marks.{mark-quote, mark-lf, no-mark, digits-plain, doubled-quote, doubled-other}
 use Rattle.sheet.specs.Reading.{unquoted, contentIn, linesFrom, linesIn}
@@ -98,7 +97,8 @@ module _ (line : List (List ℕ)) where
             (quote-on true f (quote ∷ (doubled t ++ (quote ∷ rest))) ∙ quote-on false g (doubled t ++ (quote ∷ rest))
             ∙ doubled-read t (g ++ (quote ∷ [])) rest
             ∙ more false _ _ rest
-            (append-snoc g quote (doubled t ++ (quote ∷ [])) ∙ append-snoc f quote (quote ∷ (doubled t ++ (quote ∷ [])))))
+            (append-snoc g quote (doubled t ++ (quote ∷ []))
+            ∙ append-snoc f quote (quote ∷ (doubled t ++ (quote ∷ [])))))
         | no e ↦
             rw (doubled-other x t e)
             (inner-on x f (doubled t ++ (quote ∷ rest)) e ∙ doubled-read t (f ++ (x ∷ [])) rest

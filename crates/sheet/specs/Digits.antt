@@ -1,9 +1,10 @@
--- The digits of a number, the highest first, in any base up to 16; decimal digits without a leading zero; and the number
--- that digits say. Assumes nothing.
+-- The digits of a number, the highest first, in any base up to 16; decimal digits without a leading zero; and the
+-- number that digits say. Assumes nothing.
 use Prim.Native.Nat.{ℕ, zero, suc, _+_, _-_, _*_, _/_, _%_, _^_, _≤_, _<_}
+use native.Mathlib.Nat.{pow-suc}
 use native.Mathlib.Omega.{arith}
-use mathlib.Core.Path.{_≡_, refl, sym, ap, _∙_}
-use mathlib.Core.Bool.{Bool, true, false, cond}
+use mathlib.Core.Path.{_≡_, refl, ap, _∙_}
+use mathlib.Core.Bool.{cond}
 use mathlib.Core.List.{List, [], _∷_, _++_}
 use lib.Dec.{ltb}
 use lib.ListN.{length, length-append}
@@ -43,7 +44,8 @@ numberIn ds = numberFrom 0 ds
 pub digits-long : (b k n : ℕ) → length (digitsOf b k n) ≡ k
 unfolding digitsOf
 digits-long b zero n = refl
-digits-long b (suc k) n = let l = digits-long b k (n / b) in length-append (digitsOf b k (n / b)) (digitOf (n % b) ∷ []) ∙ omega arith
+digits-long b (suc k) n = let l = digits-long b k (n / b) in length-append (digitsOf b k (n / b)) (digitOf (n % b) ∷ [])
+    ∙ omega arith
 
 pub digit-few : (d : ℕ) → d < 10 → digitOf d ≡ 48 + d
 unfolding digitOf
@@ -66,7 +68,21 @@ places-few (suc n) h = rw (lt-ltb (suc n) 10 h)
 pub places-more : (n : ℕ) → 10 ≤ n → placesOf n ≡ suc (placesOf (n / 10))
 unfolding placesOf placesTo
 places-more zero h = absurd (omega arith)
-places-more (suc n) h = rw (le-ltb (suc n) 10 h) (ap suc (enough n (suc n / 10) (suc n / 10) (omega arith) (omega arith)))
+places-more (suc n) h = rw (le-ltb (suc n) 10 h)
+    (ap suc (enough n (suc n / 10) (suc n / 10) (omega arith) (omega arith)))
+
+ten-some : (k : ℕ) → 1 ≤ 10 ^ k
+ten-some zero = omega arith
+ten-some (suc k) = let h = ten-some k in let p = pow-suc 10 k in omega arith
+
+-- by the powers of ten between which it lies
+pub places-between : (k n : ℕ) → 10 ^ k ≤ n → n < 10 ^ suc k → placesOf n ≡ suc k
+places-between zero n h l = places-few n (omega arith)
+places-between (suc k) n h l =
+    let p = pow-suc 10 k in
+    let q = pow-suc 10 (suc k) in
+    let o = ten-some k in
+    places-more n (omega arith) ∙ ap suc (places-between k (n / 10) (omega arith) (omega arith))
 
 pub decimal-few : (n : ℕ) → n < 10 → decimal n ≡ (48 + n) ∷ []
 unfolding decimal digitsOf
@@ -96,9 +112,6 @@ pub decimal-back : (n : ℕ) → numberIn (decimal n) ≡ n
 decimal-back n =
     by-digits (λ m. numberIn (decimal m) ≡ m) (λ m h. rw (decimal-few m h) (omega arith))
     (λ m h p. rw (decimal-more m h, number-snoc 0 (decimal (m / 10)) (48 + m % 10), p) (omega arith)) n
-
-pub decimal-one : (m n : ℕ) → decimal m ≡ decimal n → m ≡ n
-decimal-one m n e = sym (decimal-back m) ∙ ap numberIn e ∙ decimal-back n
 
 -- there is a digit, and there are no more than the number says and one
 pub places-some : (n : ℕ) → (1 ≤ placesOf n) × (placesOf n ≤ n + 1)

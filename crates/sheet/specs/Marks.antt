@@ -5,13 +5,13 @@ use native.Mathlib.Omega.{arith}
 use mathlib.Core.Path.{_≡_, refl, sym, ap, _∙_}
 use mathlib.Core.Bool.{Bool, true, false, cond}
 use mathlib.Core.List.{List, [], _∷_, _++_}
-use lib.Dec.{eqb, ltb}
+use lib.Dec.{eqb}
 use lib.ListN.{length, length-append}
 use borrow.Author.Tests.{lt-ltb, le-ltb, eq-eqb, ne-eqb}
 use Rattle.octets.specs.Cases.{split}
 use Rattle.entry.specs.Record.{unlike}
 use Rattle.sheet.specs.Digits.{digitOf, digitsOf, placesOf, decimal}
-use Rattle.sheet.specs.Field.{quote, comma, cr, lf, isMark, marked, doubled, quoted, spelt, tagField}
+use Rattle.sheet.specs.Field.{quote, comma, cr, lf, isMark, marked, doubled, quoted, spelt}
 
 -- ---- marks
 
@@ -47,7 +47,8 @@ marked-snoc (y ∷ s) x h k = go (isMark y) h (λ z. marked-snoc s x z k)
 far-plain : (x : ℕ) → 45 ≤ x → isMark x ≡ false
 unfolding isMark
 far-plain x k =
-    rw (ne-eqb x comma (omega arith), ne-eqb x quote (omega arith), ne-eqb x cr (omega arith), ne-eqb x lf (omega arith))
+    rw
+    (ne-eqb x comma (omega arith), ne-eqb x quote (omega arith), ne-eqb x cr (omega arith), ne-eqb x lf (omega arith))
 
 digit-plain : (d : ℕ) → d < 16 → isMark (digitOf d) ≡ false
 unfolding digitOf

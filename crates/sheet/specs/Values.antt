@@ -1,5 +1,5 @@
--- The values that can be exported, by the type of their column: what each says, what its field holds, and that the value
--- comes back from that. Assumes nothing.
+-- The values that can be exported, by the type of their column: what each says, what its field holds, and that the
+-- value comes back from that. Assumes nothing.
 use Prim.Native.Nat.{ℕ, zero, suc, _+_, _-_, _^_, _≤_, _<_}
 use native.Mathlib.Omega.{arith}
 use mathlib.Core.Path.{_≡_, refl, sym, ap, _∙_}
@@ -15,8 +15,7 @@ use Rattle.octets.specs.Octets.{octetAt}
 use Rattle.whole.specs.declared.Number.the-variants.{Is}
 use Rattle.whole.specs.Number.{numberOf as wholeOf, encodeNumber}
 use Rattle.whole.specs.Laws.{number-back}
-use Rattle.text.specs.Char.{encodeChar, first-some}
-use Rattle.text.specs.Text.{encodeChars, Chars}
+use Rattle.text.specs.Text.{encodeChars, chars-some}
 use Rattle.value.specs.Types.{number, truth, narrow, text, formIn, numberOf, formAt, formOf}
 use Rattle.value.specs.Encode.{Item, aNumber, aTruth, aNarrow, aText, aBinary, kindOf, Valid, encodeItem}
 use Rattle.value.specs.Form.{IsValue}
@@ -95,18 +94,12 @@ narrow-value v h = go (h .item) (h .kind) (h .valid) (h .form)
     go (aText t) k l f = absurd (let z : _≡_ {A = ℕ} 0 1 = cc in omega arith)
     go (aBinary t) k l f = absurd (let z : _≡_ {A = ℕ} 0 1 = cc in omega arith)
 
-some-chars : (ns : List ℕ) → Chars ns → 1 ≤ length ns → 1 ≤ length (encodeChars ns)
-some-chars [] c h = absurd (omega arith)
-some-chars (n ∷ ns) c h =
-    let l = first-some n (c .0) [] .1 in
-    rw (length-append (encodeChar n) (encodeChars ns)) (omega arith)
-
 pub text-value : (v : List ℕ) → IsValue (formOf texts) v → AString v
 unfolding formOf numberOf formIn formAt IsValue
 text-value v h = go (h .item) (h .kind) (h .valid) (h .form)
   where
     go : (i : Item) → kindOf i ≡ text → Valid i → v ≡ encodeItem i → AString v
-    go (aText t) k l f = record { octets = encodeChars t; some = some-chars t (l .0) (l .1); form = f }
+    go (aText t) k l f = record { octets = encodeChars t; some = chars-some t (l .0) (l .1); form = f }
     go (aTruth b) k l f = absurd (let z : _≡_ {A = ℕ} 0 1 = cc in omega arith)
     go (aNumber n) k l f = absurd (let z : _≡_ {A = ℕ} 0 1 = cc in omega arith)
     go (aNarrow t) k l f = absurd (let z : _≡_ {A = ℕ} 0 1 = cc in omega arith)
@@ -124,7 +117,8 @@ number-content v a =
 pub truth-content : (v : List ℕ) (a : ATruth v) → contentOf truths (some v) ≡ (48 + a .says) ∷ []
 unfolding contentOf
 truth-content v a =
-    ap (λ (l : List ℕ). cond (eqb (octetAt l 0) 0) 48 49 ∷ []) (a .form) ∙ ap (λ (n : ℕ). n ∷ []) (go (a .says) (a .small))
+    ap (λ (l : List ℕ). cond (eqb (octetAt l 0) 0) 48 49 ∷ []) (a .form)
+    ∙ ap (λ (n : ℕ). n ∷ []) (go (a .says) (a .small))
   where
     go : (n : ℕ) → n < 2 → cond (eqb n 0) 48 49 ≡ 48 + n
     go zero h = refl

@@ -1,6 +1,6 @@
-// Answers each case of a stream with the sheet of a book: a line for each. The first octet of a case says what it is: 0 a
-// new book, 1 tags of which the sheet's length is asked, 2 a room and tags, and the sheet is written there. tests/make.py
-// has the lines' form.
+// Answers each case of a stream with the sheet of a book: a line for each. The first octet of a case says what it is: 0
+// a new book, 1 tags of which the sheet's length is asked, 2 a room and tags, and the sheet is written there.
+// tests/make.py has the lines' form.
 use answers::Made;
 use answers::Refusal;
 use lines::NO_CASE;

@@ -1,4 +1,4 @@
--- How a string is written, and the two laws that tie that to `textOf`.
+-- How a string is written, the two laws that tie that to `textOf`, and that it holds no 0 in front of its end.
 use Prim.Native.Nat.{ℕ, zero, suc, _+_, _-_, _≤_, _<_}
 use native.Mathlib.Nat.{add-zero}
 use native.Mathlib.Omega.{arith}
@@ -7,12 +7,13 @@ use mathlib.Core.List.{List, [], _∷_, _++_, append-assoc}
 use lib.ListN.{length, drop, length-append, length-drop}
 use lib.Seq.{drop-append-seam}
 use lib.Dec.{eqb}
-use borrow.Author.Tests.{ne-eqb, eqb-true, eqb-false}
-use Rattle.octets.specs.Cases.{taken}
+use borrow.Author.Tests.{lt-ltb, le-ltb, ne-eqb, eqb-true, eqb-false}
+use Rattle.octets.specs.Cases.{split, taken}
 use Rattle.octets.specs.Octets.{octetAt}
 use Rattle.answers.specs.declared.Walk.{Walk}
 use Rattle.answers.specs.declared.Walk.the-variants.{Ends}
 use Rattle.answers.specs.Walk.{no-end, breakOf, break-either}
+use Rattle.text.specs.Narrow.{NoZero}
 use Rattle.text.specs.Utf8.{charWidth, textFrom, textOf}
 use Rattle.text.specs.Char.{Scalar, encodeChar, char-back, Char, char-sound, first-some}
 
@@ -136,3 +137,31 @@ breaks-from zero i (x ∷ xs) =
 
 pub text-breaks : (xs : List ℕ) → breakOf (textOf xs) ≡ 0
 text-breaks xs = breaks-from 0 0 xs
+
+-- ---- characters other than 0 have octets, and none of them is 0
+
+char-noZero : (n : ℕ) → 1 ≤ n → NoZero (encodeChar n)
+unfolding encodeChar
+char-noZero n h =
+    split n 128 (λ i. simp (lt-ltb n 128 i) ((λ z. omega arith), tt))
+    (λ i. split n 2048 (λ j. simp (le-ltb n 128 i, lt-ltb n 2048 j) ((λ z. omega arith), ((λ z. omega arith), tt)))
+    (λ j. split n 65536
+    (λ k. simp (le-ltb n 128 i, le-ltb n 2048 j, lt-ltb n 65536 k)
+    ((λ z. omega arith), ((λ z. omega arith), ((λ z. omega arith), tt))))
+    (λ k. simp (le-ltb n 128 i, le-ltb n 2048 j, le-ltb n 65536 k)
+    ((λ z. omega arith), ((λ z. omega arith), ((λ z. omega arith), ((λ z. omega arith), tt)))))))
+
+noZero-append : (s t : List ℕ) → NoZero s → NoZero t → NoZero (s ++ t)
+noZero-append [] t h k = k
+noZero-append (x ∷ s) t h k = (h .0, noZero-append s t (h .1) k)
+
+pub chars-noZero : (ns : List ℕ) → Chars ns → NoZero (encodeChars ns)
+chars-noZero [] h = tt
+chars-noZero (n ∷ ns) h =
+    noZero-append (encodeChar n) (encodeChars ns) (char-noZero n (h .0)) (chars-noZero ns (h .2))
+
+pub chars-some : (ns : List ℕ) → Chars ns → 1 ≤ length ns → 1 ≤ length (encodeChars ns)
+chars-some [] c h = absurd (omega arith)
+chars-some (n ∷ ns) c h =
+    let l = first-some n (c .0) [] .1 in
+    rw (length-append (encodeChar n) (encodeChars ns)) (omega arith)

@@ -1,3 +1,4 @@
+use Rattle.edges.specs.Passed.{passed}
 use Rattle.edges.specs.Edges.{edgesFrom}
 use Rattle.edges.specs.Cases.{edges-start, edges-step, edges-end, edges-kept}
 use Rattle.octets.specs.Splice.{splice}
@@ -10,11 +11,13 @@ use Rattle.edges.proofs.fill_edges.Tie as tie
 use Rattle.edges.proofs.fill_edges.Reads as reads
 use Rattle.edges.proofs.fill_edges.Lts as lts
 use Rattle.edges.proofs.column_width.Reads as column-width-reads
+use Rattle.edges.proofs.pass_form.Reads as pass-form-reads
 
 abbrev Inv-loop : tie.InvT-loop
 Inv-loop p forms s at edges₀ j₀ i₀ edges j i =
     (i ≤ length s) × (j ≤ length forms) × (length edges ≡ length edges₀)
-    × (splice edges j (edgesFrom (drop j forms) j p (at + i) (drop i s)) ≡ splice edges₀ 0 (edgesFrom forms 0 p at s))
+    × (splice edges j (edgesFrom (passed (drop j forms)) j p (at + i) (drop i s))
+    ≡ splice edges₀ 0 (edgesFrom (passed forms) 0 p at s))
 
 abbrev μ-loop : tie.MeasureT-loop
 μ-loop p forms s at edges₀ j₀ i₀ edges j i = length forms - j
@@ -31,8 +34,11 @@ mul-edges c = search needs
 slice-write-edges : tie.Need-slice-write-edges Inv-loop μ-loop
 slice-write-edges c = search needs
 
-shared-slice-read-column-width : tie.Need-shared-slice-read-column-width Inv-loop μ-loop
-shared-slice-read-column-width c = search needs
+shared-slice-read-pass-form : tie.Need-shared-slice-read-pass-form Inv-loop μ-loop
+shared-slice-read-pass-form c = search needs
+
+pass-form-requires : tie.Need-pass-form-requires Inv-loop μ-loop
+pass-form-requires c κs = search needs
 
 sub-column-width : tie.Need-sub-column-width Inv-loop μ-loop
 sub-column-width c = search needs
@@ -83,7 +89,8 @@ fill-edges-spec =
     add-edges
     mul-edges
     slice-write-edges
-    shared-slice-read-column-width
+    shared-slice-read-pass-form
+    pass-form-requires
     sub-column-width
     part-column-width-start
     part-column-width-end

@@ -17,7 +17,8 @@ enum-known-judged-2 : tie.Need-enum-known-judged-2
 enum-known-judged-2 c = search needs
 
 measure-good-requires : tie.Need-measure-good-requires
-measure-good-requires c κs = (search book-short, search first-near, search count-few, search tags-reach, search forms-reach)
+measure-good-requires c κs =
+    (search book-short, search first-near, search count-few, search tags-reach, search forms-reach)
 
 returns : tie.Need-returns
 returns c = search (needs, exportCases)

@@ -1,6 +1,6 @@
 use mathlib.Core.Path.{_≡_}
 use Prim.Native.Nat.{_+_, _-_, _*_, _^_, _≤_, _<_}
-use lib.ListN.{length, take, drop, getD, replicate}
+use lib.ListN.{length, take, replicate}
 use Rattle.exporting.specs.ChoiceCases.{placesCases}
 use mathlib.Core.List.{_++_}
 use Rattle.exporting.specs.Steps.{placesIn}
@@ -12,7 +12,8 @@ use Rattle.exporting.proofs.choice.find_places.Lts as lts
 use Rattle.exporting.proofs.choice.place_of.Reads as place-of-reads
 
 abbrev Inv-loop : tie.InvT-loop
-Inv-loop cols tags places₀ i₀ places i = (i ≤ length tags) × (places ≡ placesIn cols (take i tags) ++ replicate (16 - i) 0)
+Inv-loop cols tags places₀ i₀ places i =
+    (i ≤ length tags) × (places ≡ placesIn cols (take i tags) ++ replicate (16 - i) 0)
 
 abbrev μ-loop : tie.MeasureT-loop
 μ-loop cols tags places₀ i₀ places i = length tags - i

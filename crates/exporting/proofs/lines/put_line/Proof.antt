@@ -1,7 +1,8 @@
 use mathlib.Core.Path.{_≡_}
 use Prim.Native.Nat.{_+_, _-_, _*_, _^_, _≤_}
 use lib.ListN.{length, drop}
-use Rattle.exporting.specs.LineCases.{lineCases, fieldsAre, chosen-long, field-at, line-kept, chosen-rest, chosen-step}
+use Rattle.exporting.specs.LineCases.{lineCases, fieldsAre, chosen-long, field-at, line-kept, chosen-rest}
+use Rattle.exporting.specs.LineCases.{chosen-step}
 use Rattle.octets.specs.Splice.{splice}
 use Rattle.sheet.specs.Field.{lineOf}
 use Rattle.exporting.specs.Steps.{chosenFields}

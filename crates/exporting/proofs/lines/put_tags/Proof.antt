@@ -1,10 +1,9 @@
 use mathlib.Core.Path.{_≡_}
 use Prim.Native.Nat.{_+_, _-_, _*_, _^_, _≤_, _<_}
-use lib.ListN.{length, take, drop, getD}
+use lib.ListN.{length, drop}
 use Rattle.octets.specs.Splice.{splice}
 use Rattle.exporting.specs.LineCases.{lineCases, tagsAre, line-kept, line-rest, line-step}
 use Rattle.sheet.specs.Field.{lineOf, tagFields}
-use Rattle.exporting.specs.Steps.{chosenFields}
 use borrow.Author.Needs.{needs}
 use Rattle.exporting.proofs.lines.put_tags.Statement.{statement}
 use Rattle.exporting.proofs.lines.put_tags.Tie as tie
@@ -13,7 +12,10 @@ use Rattle.exporting.proofs.lines.put_tags.Lts as lts
 use Rattle.exporting.proofs.lines.put_tag_ended.Reads as put-tag-ended-reads
 
 abbrev Inv-loop : tie.InvT-loop
-Inv-loop out₀ at tags k₀ i₀ out k i = (i ≤ length tags) × (length out ≡ length out₀) × (k + length (lineOf (drop i (tagFields tags))) ≡ at + length (lineOf (tagFields tags))) × (splice out k (lineOf (drop i (tagFields tags))) ≡ splice out₀ at (lineOf (tagFields tags)))
+Inv-loop out₀ at tags k₀ i₀ out k i =
+    (i ≤ length tags) × (length out ≡ length out₀)
+    × (k + length (lineOf (drop i (tagFields tags))) ≡ at + length (lineOf (tagFields tags)))
+    × (splice out k (lineOf (drop i (tagFields tags))) ≡ splice out₀ at (lineOf (tagFields tags)))
 
 abbrev μ-loop : tie.MeasureT-loop
 μ-loop out₀ at tags k₀ i₀ out k i = length tags - i
