@@ -58,6 +58,9 @@ breaksForm = 18
 abbrev pub wrongIndex : ℕ
 wrongIndex = 19
 
+abbrev pub wrongSheet : ℕ
+wrongSheet = 20
+
 -- the house limits
 abbrev pub mostOctets : ℕ
 mostOctets = 268435456

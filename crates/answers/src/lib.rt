@@ -64,6 +64,8 @@ pub const BREAKS_FORM: u32 = 18;
 
 pub const WRONG_INDEX: u32 = 19;
 
+pub const WRONG_SHEET: u32 = 20;
+
 pub const MOST_OCTETS: usize = 268435456;
 
 pub const MOST_COLUMNS: usize = 128;

@@ -33,8 +33,8 @@ use Rattle.book.specs.Read.{bookIn}
 use Rattle.book.specs.declared.Judgement.{Judgement}
 use Rattle.book.specs.declared.Judged.the-variants as judged
 use Rattle.sheet.specs.Digits.{digits-long}
-use Rattle.sheet.specs.Field.{endOf, lineOf, tagField, tagFields}
-use Rattle.exporting.specs.Export.{mostChosen, allKnown, allExported, choiceAt, sheetAt, exportAt, lengthAnswer}
+use Rattle.sheet.specs.Field.{allExported, mostChosen, endOf, lineOf, tagField, tagFields}
+use Rattle.exporting.specs.Export.{allKnown, choiceAt, sheetAt, exportAt, lengthAnswer}
 use Rattle.exporting.specs.Export.{exportAnswer, exportOctets, sheetIn}
 use Rattle.exporting.specs.Steps.{linesBy, sheetBy, placesIn, placesFor, sheetFrom, choiceFrom, goodLength}
 use Rattle.exporting.specs.Steps.{goodAnswer, goodOctets}

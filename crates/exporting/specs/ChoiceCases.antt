@@ -5,10 +5,9 @@ use native.Mathlib.Numerals.{add-one}
 use mathlib.Core.Path.{_≡_, refl, sym, ap, _∙_}
 use mathlib.Core.Bool.{Bool, true, false, not}
 use mathlib.Core.List.{List, [], _∷_, _++_}
-use lib.Dec.{eqb}
 use lib.ListN.{length, take, drop, getD, set, replicate, drop-of-length-le}
 use lib.Seq.{set-at, take-suc, take-all, length-take-le, append-snoc}
-use borrow.Author.Tests.{le-leb, lt-leb, ne-eqb, not-true, not-false}
+use borrow.Author.Tests.{le-leb, lt-leb, not-true, not-false}
 use Rattle.octets.specs.Octets.{drop-next}
 use Rattle.answers.specs.Numbers.{outOfTurn, breaksForm}
 use Rattle.answers.specs.declared.Verdict.{Verdict}
@@ -18,28 +17,9 @@ use Rattle.table.specs.Repeat.{repeatOf}
 use Rattle.table.specs.declared.Found.{Found}
 use Rattle.table.specs.declared.Found.the-variants.{At, Nothing}
 use Rattle.lookup.specs.Look.{columnIn}
-use Rattle.sheet.specs.Field.{isExported}
-use Rattle.sheet.specs.Marks.{last-test}
-use Rattle.exporting.specs.Export.{allKnown, allExported, choiceAt}
+use Rattle.sheet.specs.Field.{allExported}
+use Rattle.exporting.specs.Export.{allKnown, choiceAt}
 use Rattle.exporting.specs.Steps.{placeOf, placesIn, placesFor}
-
-pub exported-number : (x : ℕ) → x ≡ 3 → true ≡ isExported x
-unfolding isExported
-exported-number x e = rw e
-
-pub exported-truth : (x : ℕ) → x ≡ 11 → true ≡ isExported x
-unfolding isExported
-exported-truth x e = rw e
-
-pub exported-narrow : (x : ℕ) → x ≡ 30 → true ≡ isExported x
-unfolding isExported
-exported-narrow x e = rw e
-
-pub exported-text : (x : ℕ) → (x ≡ 3 → ⊥) → (x ≡ 11 → ⊥) → (x ≡ 30 → ⊥) → eqb x 31 ≡ isExported x
-unfolding isExported
-exported-text x a b c = rw (ne-eqb x 3 a, ne-eqb x 11 b, ne-eqb x 30 c) (last-test (eqb x 31))
-
-pub ruleset exportedCases = (exported-number, exported-truth, exported-narrow, exported-text)
 
 module _ (cols tags : List ℕ) (i : ℕ) (inv : allKnown cols (drop i tags) ≡ allKnown cols tags) where
   module _ (h : i < length tags) (r : Found) (e : r ≡ columnIn (getD tags i 0) cols) where
@@ -56,22 +36,6 @@ module _ (cols tags : List ℕ) (i : ℕ) (inv : allKnown cols (drop i tags) ≡
   known-all h = rw (drop-of-length-le tags {i = i} h) at inv
 
 pub ruleset knownCases = (known-next, known-not, known-all)
-
-module _ (tags : List ℕ) (i : ℕ) (inv : allExported (drop i tags) ≡ allExported tags) where
-  module _ (h : i < length tags) (r : Bool) (e : r ≡ isExported (getD tags i 0 % 65536)) where
-    pub types-next : not r ≡ false → allExported (drop (i + 1) tags) ≡ allExported tags
-    unfolding allExported
-    types-next z = rw (drop-next tags i h, ← e, not-false r z) at inv
-
-    pub types-not : not r ≡ true → false ≡ allExported tags
-    unfolding allExported
-    types-not z = rw (drop-next tags i h, ← e, not-true r z) at inv
-
-  pub types-all : length tags ≤ i → true ≡ allExported tags
-  unfolding allExported
-  types-all h = rw (drop-of-length-le tags {i = i} h) at inv
-
-pub ruleset typesCases = (types-next, types-not, types-all)
 
 module _ (cols tags : List ℕ) (a : Bool) (ae : a ≡ allKnown cols tags) where
   pub choice-unknown : (v : Verdict) → not a ≡ true → v ≡ refused outOfTurn 0 → v ≡ choiceAt cols tags

@@ -1,6 +1,6 @@
 -- A sheet of chosen address columns of a book (request 101, reading 23), said of the table that stands in it: what is
 -- selected, what is refused and in which order, the answer and the octets.
-use Prim.Native.Nat.{ℕ, _%_}
+use Prim.Native.Nat.{ℕ}
 use mathlib.Core.Bool.{Bool, true, false, cond, not}
 use mathlib.Core.List.{List, [], _∷_}
 use lib.Dec.{leb}
@@ -19,7 +19,7 @@ use Rattle.book.specs.Book.{Book, judge}
 use Rattle.book.specs.Read.{bookIn}
 use Rattle.lookup.specs.Look.{columnIn}
 use Rattle.lookup.specs.Named.{valueIn}
-use Rattle.sheet.specs.Field.{isExported, sheetOf}
+use Rattle.sheet.specs.Field.{allExported, mostChosen, sheetOf}
 
 -- ---- the selection
 
@@ -45,14 +45,6 @@ sheetIn xs tags = sheetOf tags (selected tags (bookIn xs))
 unfoldable pub allKnown : List ℕ → List ℕ → Bool
 allKnown cols [] = true
 allKnown cols (t ∷ tags) = cond (isFound (columnIn t cols)) (allKnown cols tags) false
-
--- the type of each can be exported
-unfoldable pub allExported : List ℕ → Bool
-allExported [] = true
-allExported (t ∷ tags) = cond (isExported (t % 65536)) (allExported tags) false
-
-abbrev pub mostChosen : ℕ
-mostChosen = 16
 
 -- 15 for an unknown tag, before every 18: another type, none, over 16, a tag twice
 unfoldable pub choiceAt : List ℕ → List ℕ → Verdict

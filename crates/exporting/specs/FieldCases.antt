@@ -15,7 +15,7 @@ use Rattle.octets.specs.Octets.{drop-next}
 use Rattle.octets.specs.Splice.{splice, splice-nil, splice-nil, stored, stored-in}
 use Rattle.sheet.specs.Digits.{digitOf, digitsOf, placesOf, digits-long, places-few, places-between}
 use Rattle.sheet.specs.Field.{isMark, marked, twice, doubled, quoted, spelt}
-use Rattle.sheet.specs.Marks.{last-test, spelt-plain, spelt-quoted, quoted-long}
+use Rattle.sheet.specs.Marks.{spelt-plain, spelt-quoted, quoted-long}
 use Rattle.octets.specs.Stores.{splice-one, splice-last, laid, laid-one, laid-long}
 
 -- ---- digits
@@ -81,24 +81,6 @@ module _ (n k least : ℕ) (inv : least ≡ 10 ^ k) where
 pub ruleset placeCases = (places-one, places-start, places-more-than, places-step, places-end)
 
 -- ---- marks
-
-pub mark-comma : (x : ℕ) → x ≡ 44 → true ≡ isMark x
-unfolding isMark
-mark-comma x e = rw e
-
-pub mark-quote : (x : ℕ) → x ≡ 34 → true ≡ isMark x
-unfolding isMark
-mark-quote x e = rw e
-
-pub mark-cr : (x : ℕ) → x ≡ 13 → true ≡ isMark x
-unfolding isMark
-mark-cr x e = rw e
-
-pub mark-lf : (x : ℕ) → (x ≡ 44 → ⊥) → (x ≡ 34 → ⊥) → (x ≡ 13 → ⊥) → eqb x 10 ≡ isMark x
-unfolding isMark
-mark-lf x a b c = rw (ne-eqb x 44 a, ne-eqb x 34 b, ne-eqb x 13 c) (last-test (eqb x 10))
-
-pub ruleset markCases = (mark-comma, mark-quote, mark-cr, mark-lf)
 
 module _ (s : List ℕ) (i : ℕ) (inv : marked (drop i s) ≡ marked s) where
   module _ (h : i < length s) (r : Bool) (e : r ≡ isMark (getD s i 0)) where

@@ -17,8 +17,8 @@ use Rattle.table.specs.Found.{columnOf}
 use Rattle.table.specs.declared.Columns.{Columns}
 use Rattle.edges.specs.Edges.{mostEdges, edgesIn, cellIn}
 use Rattle.lookup.specs.Look.{columnIn}
-use Rattle.sheet.specs.Field.{comma, cr, fieldOf, lineOf, tagFields}
-use Rattle.exporting.specs.Export.{mostChosen, choiceAt}
+use Rattle.sheet.specs.Field.{mostChosen, comma, cr, fieldOf, lineOf, tagFields}
+use Rattle.exporting.specs.Export.{choiceAt}
 
 -- ---- a field
 

@@ -4,13 +4,11 @@
 use Prim.Native.Nat.{ℕ, zero, suc, _%_, _≤_, _<_}
 use native.Mathlib.Omega.{arith}
 use mathlib.Core.Path.{_≡_, refl, sym, ap, _∙_}
-use mathlib.Core.Bool.{true}
 use mathlib.Core.Option.{Option, none, some}
 use mathlib.Core.List.{List, [], _∷_}
 use lib.Dec.{leb}
 use lib.ListN.{length, getD}
 use borrow.Author.Tests.{le-leb}
-use Rattle.octets.specs.Cases.{taken}
 use Rattle.octets.specs.Octets.{Octets}
 use Rattle.answers.specs.Numbers.{outOfTurn, noRoom, breaksForm}
 use Rattle.answers.specs.declared.Refusal.{Refusal}
@@ -23,7 +21,7 @@ use Rattle.table.specs.Columns.{tagsOf}
 use Rattle.table.specs.declared.Found.{Found}
 use Rattle.table.specs.declared.Found.the-variants.{At, Nothing}
 use Rattle.entry.specs.Present.{Row}
-use Rattle.entry.specs.Record.{noSlot, SoundEntry, SoundRow, sound-entry, unlike}
+use Rattle.entry.specs.Record.{noSlot, SoundEntry, SoundRow, sound-entry}
 use Rattle.book.specs.Book.{Book, Sound, judge}
 use Rattle.book.specs.Read.{bookIn, book-reads}
 use Rattle.lookup.specs.Look.{columnIn}
@@ -31,11 +29,11 @@ use Rattle.lookup.specs.Laws.{column-in, column-tag}
 use Rattle.lookup.specs.Places.{rowAt}
 use Rattle.lookup.specs.Named.{slotsUnder, slots-reach, valueIn, valueFor, row-sound, value-formed}
 use Rattle.lookup.specs.declared.Which.the-variants.{Number}
-use Rattle.sheet.specs.Field.{isExported, codesOf}
+use Rattle.sheet.specs.Field.{allExported, codesOf}
 use Rattle.sheet.specs.Reading.{rowsIn}
 use Rattle.sheet.specs.Values.{freeSlot}
-use Rattle.sheet.specs.One.{freeSlots, Exported, SoundChoice, sheet-back}
-use Rattle.exporting.specs.Export.{chosenOf, selectedOf, selected, sheetIn, allKnown, allExported}
+use Rattle.sheet.specs.One.{freeSlots, Exported, exported-each, SoundChoice, sheet-back}
+use Rattle.exporting.specs.Export.{chosenOf, selectedOf, selected, sheetIn, allKnown}
 use Rattle.exporting.specs.Export.{choiceAt, sheetAt, exportAt, lengthAnswer, exportAnswer}
 
 -- ---- the selection of a sound book
@@ -78,12 +76,6 @@ pub selected-sound : (b : Book) → Sound b → (tags : List ℕ) → SoundChoic
 selected-sound b s tags = selected-free (tagsOf (b .cols)) tags (b .rows) (λ k h. chosen-free b s k h tags)
 
 -- ---- the values of an accepted export come back
-
-exported-each : (tags : List ℕ) → allExported tags ≡ true → Exported (codesOf tags)
-unfolding allExported
-exported-each [] h = tt
-exported-each (t ∷ tags) h =
-    taken (isExported (t % 65536)) _ _ _ h (λ p q. (p, exported-each tags q)) (λ p q. unlike q)
 
 choice-exported : (cols tags : List ℕ) → choiceAt cols tags ≡ clear → Exported (codesOf tags)
 unfolding choiceAt

@@ -1,39 +1,15 @@
 // The chosen tags: whether they may be exported, and the column of each.
 use answers::Verdict;
 use answers::refuse;
+use sheet::MOST_CHOSEN;
+use sheet::all_exported;
 use table::Found;
 ghost use mathlib.Core.Path.{_≡_};
 ghost use Prim.Native.Nat.{_≤_};
 ghost use lib.ListN.{length};
-ghost use Rattle.sheet.specs.Field.{isExported};
-ghost use Rattle.exporting.specs.Export.{mostChosen, allKnown, allExported, choiceAt};
+ghost use Rattle.sheet.specs.Field.{mostChosen};
+ghost use Rattle.exporting.specs.Export.{allKnown, choiceAt};
 ghost use Rattle.exporting.specs.Steps.{placeOf, placesFor};
-
-pub const MOST_CHOSEN: usize = 16;
-
-// The types that can be exported.
-pub const NUMBERS: u32 = 0x0003;
-
-pub const TRUTHS: u32 = 0x000B;
-
-const NARROWS: u32 = 0x001E;
-
-const TEXTS: u32 = 0x001F;
-
-fn is_exported(code: u32) -> bool
-    ensures { λ r. ⌜ r ≡ isExported code ⌝ }
-{
-    if code == NUMBERS {
-        return true;
-    }
-    if code == TRUTHS {
-        return true;
-    }
-    if code == NARROWS {
-        return true;
-    }
-    code == TEXTS
-}
 
 // Whether each tag is a column's.
 fn all_known(cols: &[u32], tags: &[u32]) -> bool
@@ -44,20 +20,6 @@ fn all_known(cols: &[u32], tags: &[u32]) -> bool
         let Found::At(_) = lookup::find_column(cols, tags[i]) else {
             return false;
         };
-        i += 1;
-    }
-    true
-}
-
-// Whether the type of each tag can be exported.
-fn all_exported(tags: &[u32]) -> bool
-    ensures { λ r. ⌜ r ≡ allExported (now (tags .entry)) ⌝ }
-{
-    let mut i = 0;
-    while i < tags.len() {
-        if !is_exported(tags[i] % 65536) {
-            return false;
-        }
         i += 1;
     }
     true

@@ -1,6 +1,6 @@
 // One field of a sheet, measured and written: the text of a value, of which there are no octets where it is absent.
-use crate::choice::NUMBERS;
-use crate::choice::TRUTHS;
+use sheet::NUMBERS;
+use sheet::TRUTHS;
 use crate::digits::places;
 use crate::digits::put_digits;
 use crate::strings::put_string;

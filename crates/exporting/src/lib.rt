@@ -19,7 +19,8 @@ ghost use Prim.Native.Nat.{_^_, _≤_, _<_};
 ghost use lib.ListN.{length};
 ghost use Rattle.octets.specs.Splice.{splice};
 ghost use Rattle.answers.specs.Numbers.{mostRecords};
-ghost use Rattle.exporting.specs.Export.{mostChosen, lengthAnswer, exportAnswer, exportOctets};
+ghost use Rattle.sheet.specs.Field.{mostChosen};
+ghost use Rattle.exporting.specs.Export.{lengthAnswer, exportAnswer, exportOctets};
 ghost use Rattle.exporting.specs.Steps.{sheetBy, sheetFrom, goodLength, goodAnswer, goodOctets};
 
 // How many octets the sheet of good records takes; `places` has the column of each tag.

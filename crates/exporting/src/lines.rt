@@ -2,9 +2,9 @@
 use crate::fields::field_size;
 use crate::fields::put_field;
 use crate::fields::put_tag;
-use crate::strings::COMMA;
-use crate::strings::CR;
-use crate::strings::LF;
+use sheet::COMMA;
+use sheet::CR;
+use sheet::LF;
 use edges::MOST_EDGES;
 use octets::word32;
 ghost use mathlib.Core.Path.{_≡_};
@@ -15,8 +15,7 @@ ghost use lib.ListN.{length, getD, replicate};
 ghost use Rattle.octets.specs.Splice.{splice};
 ghost use Rattle.answers.specs.Numbers.{mostRecords};
 ghost use Rattle.edges.specs.Edges.{mostEdges};
-ghost use Rattle.sheet.specs.Field.{comma, cr, tagField, tagFields, lineOf};
-ghost use Rattle.exporting.specs.Export.{mostChosen};
+ghost use Rattle.sheet.specs.Field.{mostChosen, comma, cr, tagField, tagFields, lineOf};
 ghost use Rattle.exporting.specs.Steps.{fieldAt, ended, lineBy, linesBy};
 
 fn place(s: &[usize], i: usize) -> usize

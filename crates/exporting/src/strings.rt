@@ -1,32 +1,11 @@
 // Strings in a lent buffer, in quotes where they must be. All that is put has room there: it was measured before.
+use sheet::QUOTE;
+use sheet::is_mark;
 ghost use mathlib.Core.Path.{_≡_};
 ghost use Prim.Native.Nat.{_+_, _^_, _≤_, _<_};
 ghost use lib.ListN.{length};
 ghost use Rattle.octets.specs.Splice.{splice};
-ghost use Rattle.sheet.specs.Field.{isMark, marked, twice, doubled, quoted, spelt};
-
-const QUOTE: u8 = 34;
-
-pub const COMMA: u8 = 44;
-
-pub const CR: u8 = 13;
-
-pub const LF: u8 = 10;
-
-fn is_mark(x: u8) -> bool
-    ensures { λ r. ⌜ r ≡ isMark x ⌝ }
-{
-    if x == COMMA {
-        return true;
-    }
-    if x == QUOTE {
-        return true;
-    }
-    if x == CR {
-        return true;
-    }
-    x == LF
-}
+ghost use Rattle.sheet.specs.Field.{marked, twice, doubled, quoted, spelt};
 
 // Whether a comma, a quote, CR or LF stands in `s`.
 fn has_mark(s: &[u8]) -> bool

@@ -31,6 +31,15 @@ texts = 0x001F
 unfoldable pub isExported : ℕ → Bool
 isExported code = memb code (numbers ∷ truths ∷ narrows ∷ texts ∷ [])
 
+-- the type of each tag can be exported
+unfoldable pub allExported : List ℕ → Bool
+allExported [] = true
+allExported (t ∷ tags) = cond (isExported (t % 65536)) (allExported tags) false
+
+-- a sheet has as many columns at most
+abbrev pub mostChosen : ℕ
+mostChosen = 16
+
 -- the code of a tag's type is its lower half
 abbrev pub codesOf : List ℕ → List ℕ
 codesOf [] = []

@@ -5,3 +5,4 @@ pub mod Reading
 pub mod Back
 pub mod Values
 pub mod One
+pub mod Cases

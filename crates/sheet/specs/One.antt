@@ -1,14 +1,15 @@
 -- The values that a sheet was made of come back from its text; so no two different selections of values give the same
 -- text for the same tags (request 101), and the number of records is told with them.
-use Prim.Native.Nat.{ℕ}
+use Prim.Native.Nat.{ℕ, _%_}
 use mathlib.Core.Path.{_≡_, refl, sym, ap, ap₂, _∙_}
 use mathlib.Core.Bool.{true}
 use mathlib.Core.Option.{Option}
 use mathlib.Core.List.{List, [], _∷_}
 use lib.ListN.{drop}
 use Rattle.entry.specs.Present.{Row}
-use Rattle.entry.specs.Record.{Slot, SoundRow}
-use Rattle.sheet.specs.Field.{isExported, codesOf, sheetOf}
+use Rattle.octets.specs.Cases.{taken}
+use Rattle.entry.specs.Record.{Slot, SoundRow, unlike}
+use Rattle.sheet.specs.Field.{isExported, allExported, codesOf, sheetOf}
 use Rattle.sheet.specs.Reading.{valuesFrom, rowsFrom, rowsIn}
 use Rattle.sheet.specs.Back.{contentsOf, heldBy, sheet-read}
 use Rattle.sheet.specs.Values.{freeSlot, value-back}
@@ -21,6 +22,12 @@ freeSlots (c ∷ cs) = freeSlot c ∷ freeSlots cs
 abbrev pub Exported : List ℕ → Type 0
 Exported [] = Unit {0}
 Exported (c ∷ cs) = (isExported c ≡ true) × Exported cs
+
+pub exported-each : (tags : List ℕ) → allExported tags ≡ true → Exported (codesOf tags)
+unfolding allExported
+exported-each [] h = tt
+exported-each (t ∷ tags) h =
+    taken (isExported (t % 65536)) _ _ _ h (λ p q. (p, exported-each tags q)) (λ p q. unlike q)
 
 -- rows that have, for each of the types, a value of it or none
 abbrev pub SoundChoice : List ℕ → List Row → Type 0

@@ -1,0 +1,2 @@
+// A book from a sheet (request 106).
+mod fields;
