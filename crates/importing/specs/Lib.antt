@@ -1,2 +1,6 @@
 pub mod Fields
 pub mod FieldCases
+pub mod Given
+pub mod Lines
+pub mod Marked
+pub mod LineCases

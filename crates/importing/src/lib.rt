@@ -1,2 +1,3 @@
 // A book from a sheet (request 106).
 mod fields;
+mod lines;
