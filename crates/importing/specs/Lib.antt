@@ -4,3 +4,5 @@ pub mod Given
 pub mod Lines
 pub mod Marked
 pub mod LineCases
+pub mod Head
+pub mod HeadCases
