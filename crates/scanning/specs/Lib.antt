@@ -6,3 +6,13 @@ pub mod FieldSound
 pub mod Runs
 pub mod Exact
 pub mod First
+pub mod Place
+pub mod Unfit
+pub mod Inner
+pub mod Same
+pub mod Sound
+pub mod Taken
+pub mod FirstKept
+pub mod FirstTaken
+pub mod FirstSound
+pub mod FirstPlace
