@@ -80,6 +80,17 @@ headFrom st a ts i (x ∷ xs) =
     gone (nextOf st a (length ts) x) (λ s b. headFrom s b ts (i + 1) xs)
     (λ s. headFrom s 0 (ts ++ (a ∷ [])) (i + 1) xs) (tagsTo ts (i + 1)) (fault i)
 
+-- one octet on
+abbrev pub ran : Next → ℕ → List ℕ → ℕ → List ℕ → Headed
+ran n a ts i xs =
+    gone n (λ s b. headFrom s b ts (i + 1) xs) (λ s. headFrom s 0 (ts ++ (a ∷ [])) (i + 1) xs) (tagsTo ts (i + 1))
+    (fault i)
+
+pub head-step : (st : Stand) (a : ℕ) (ts : List ℕ) (i x : ℕ) (n : Next) → nextOf st a (length ts) x ≡ n
+    → (xs : List ℕ) → headFrom st a ts i (x ∷ xs) ≡ ran n a ts i xs
+unfolding headFrom
+head-step st a ts i x n e xs = rw e
+
 -- the line at the front of xs
 abbrev pub headIn : List ℕ → Headed
 headIn xs = headFrom (InTag false 0) 0 [] 0 xs

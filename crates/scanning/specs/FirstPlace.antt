@@ -15,18 +15,7 @@ use Rattle.scanning.specs.declared.Stand.the-variants.{InTag, Behind, Li
 use Rattle.scanning.specs.declared.Next.{Next}
 use Rattle.scanning.specs.declared.Next.the-variants.{Goes, Tag, Done, Stop}
 use Rattle.scanning.specs.First.{digitIn, nextEnd, nextTag, nextOf}
-use Rattle.scanning.specs.First.{Headed, tagsTo, fault, gone, headFrom, headIn}
-
--- what follows an octet
-ran : Next → ℕ → List ℕ → ℕ → List ℕ → Headed
-ran n a ts i ys =
-    gone n (λ s b. headFrom s b ts (i + 1) ys) (λ s. headFrom s 0 (ts ++ (a ∷ [])) (i + 1) ys) (tagsTo ts (i + 1))
-    (fault i)
-
-step-is : (st : Stand) (a : ℕ) (ts : List ℕ) (i x : ℕ) (n : Next) → nextOf st a (length ts) x ≡ n → (ys : List ℕ)
-    → headFrom st a ts i (x ∷ ys) ≡ ran n a ts i ys
-unfolding headFrom ran
-step-is st a ts i x n e ys = rw e
+use Rattle.scanning.specs.First.{tagsTo, fault, headFrom, headIn, head-step}
 
 -- ---- every beginning can be brought to its end
 
@@ -38,13 +27,12 @@ record Closes (st : Stand) (a : ℕ) (ts : List ℕ) (i : ℕ) : Type 0 where
 
 goes-on : (st s : Stand) (a b : ℕ) (ts : List ℕ) (i x : ℕ) → nextOf st a (length ts) x ≡ Goes s b
     → Closes s b ts (i + 1) → Closes st a ts i
-unfolding ran
 goes-on st s a b ts i x e c =
     record {
       tail = x ∷ c .tail;
       tags = c .tags;
       width = c .width;
-      taken = step-is st a ts i x (Goes s b) e (c .tail) ∙ c .taken;
+      taken = head-step st a ts i x (Goes s b) e (c .tail) ∙ c .taken;
     }
 
 close-line : (a : ℕ) (ts : List ℕ) (i : ℕ) → Closes LineEnd a ts i
@@ -52,14 +40,13 @@ unfolding headFrom nextOf
 close-line a ts i = record { tail = lf ∷ []; tags = ts; width = i + 1; taken = refl }
 
 last-tag : (st : Stand) (a : ℕ) (ts : List ℕ) (i : ℕ) → nextOf st a (length ts) cr ≡ Tag LineEnd → Closes st a ts i
-unfolding ran
 last-tag st a ts i e =
     let c = close-line 0 (ts ++ (a ∷ [])) (i + 1) in
     record {
       tail = cr ∷ c .tail;
       tags = c .tags;
       width = c .width;
-      taken = step-is st a ts i cr (Tag LineEnd) e (c .tail) ∙ c .taken;
+      taken = head-step st a ts i cr (Tag LineEnd) e (c .tail) ∙ c .taken;
     }
 
 close-behind : (a : ℕ) (ts : List ℕ) (i : ℕ) → Closes Behind a ts i
@@ -141,16 +128,15 @@ turn : (st : Stand) (a : ℕ) (ts : List ℕ) (i x : ℕ) (xs : List ℕ) (p : �
     → headFrom st a ts i (x ∷ xs) ≡ fault p
     → ((u : Stand) (b : ℕ) (us : List ℕ) → headFrom u b us (i + 1) xs ≡ fault p → FaultIs u b us (i + 1) xs p)
     → FaultIs st a ts i (x ∷ xs) p
-unfolding ran
 turn st a ts i x xs p (Goes s b) z e ih =
-    let g = step-is st a ts i x (Goes s b) z in
+    let g = head-step st a ts i x (Goes s b) z in
     further st s a b ts ts i x xs p g (ih s b ts (sym (g xs) ∙ e))
 turn st a ts i x xs p (Tag s) z e ih =
-    let g = step-is st a ts i x (Tag s) z in
+    let g = head-step st a ts i x (Tag s) z in
     further st s a 0 ts (ts ++ (a ∷ [])) i x xs p g (ih s 0 (ts ++ (a ∷ [])) (sym (g xs) ∙ e))
-turn st a ts i x xs p Done z e ih = no-fault (sym (step-is st a ts i x Done z xs) ∙ e)
+turn st a ts i x xs p Done z e ih = no-fault (sym (head-step st a ts i x Done z xs) ∙ e)
 turn st a ts i x xs p Stop z e ih =
-    let g = step-is st a ts i x Stop z in
+    let g = head-step st a ts i x Stop z in
     let q : i ≡ p = fault-one (sym (g xs) ∙ e) in
     here st a ts i (x ∷ xs) p q (λ l more. g more ∙ ap fault q)
 

@@ -19,7 +19,7 @@ use Rattle.scanning.specs.declared.Stand.the-variants.{InTag, Behind, Li
 use Rattle.scanning.specs.declared.Next.{Next}
 use Rattle.scanning.specs.declared.Next.the-variants.{Goes, Tag, Done, Stop}
 use Rattle.scanning.specs.First.{mostTags, Words, IsFirst, digitIn, nextEnd, nextQuote, nextTag, nextOf}
-use Rattle.scanning.specs.First.{Headed, tagsTo, fault, gone, headFrom, headIn}
+use Rattle.scanning.specs.First.{tagsTo, fault, headFrom, ran, headIn}
 use Rattle.scanning.specs.FirstKept.{Kept, NextKept, room, kept-few, next-kept}
 use Rattle.scanning.specs.FirstTaken.{hexFrom, AllHex, hex-small, hex-digits, tag-plain, quoted-tag}
 
@@ -235,8 +235,7 @@ found (x ∷ xs) st a ts i us w h e =
     (λ s b k q. found xs s b ts (i + 1) us w k q) (λ s k q. found xs s 0 (ts ++ (a ∷ [])) (i + 1) us w k q)
   where
     go : (n : Next)
-        → gone n (λ s b. headFrom s b ts (i + 1) xs) (λ s. headFrom s 0 (ts ++ (a ∷ [])) (i + 1) xs)
-        (tagsTo ts (i + 1)) (fault i) ≡ tagsTo us w
+        → ran n a ts i xs ≡ tagsTo us w
         → NextKept n a (length ts) → Undone st a x n
         → ((s : Stand) (b : ℕ) → Kept s b (length ts) → headFrom s b ts (i + 1) xs ≡ tagsTo us w
         → Found s b ts (i + 1) xs us w)

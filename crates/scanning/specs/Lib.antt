@@ -16,3 +16,9 @@ pub mod FirstKept
 pub mod FirstTaken
 pub mod FirstSound
 pub mod FirstPlace
+pub mod Strings
+pub mod DigitCases
+pub mod StringCases
+pub mod FitCases
+pub mod ScanCases
+pub mod FirstCases

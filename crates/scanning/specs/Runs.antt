@@ -38,6 +38,21 @@ pub field-step : (code e : ℕ) (s : Stage) (i x : ℕ) (xs : List ℕ) (t : Ste
 unfolding fieldFrom
 field-step code e s i x xs t q = rw q
 
+-- a field ends within the text
+pub field-within : (xs : List ℕ) (code e : ℕ) (s : Stage) (i v : ℕ) → fieldFrom code e s i xs ≡ WalkEnds v
+    → (i ≤ v) × (v < i + length xs)
+field-within [] code e s i v q = no-end (sym (field-none code e s i) ∙ q)
+field-within (x ∷ xs) code e s i v q =
+    go (stepOf code e s x) (sym (field-step code e s i x xs (stepOf code e s x) refl) ∙ q)
+    (λ u z. field-within xs code e u (i + 1) v z)
+  where
+    go : (t : Step) → moved t i (λ u. fieldFrom code e u (i + 1) xs) (WalkEnds i) ≡ WalkEnds v
+        → ((u : Stage) → fieldFrom code e u (i + 1) xs ≡ WalkEnds v → (i + 1 ≤ v) × (v < i + 1 + length xs))
+        → (i ≤ v) × (v < i + length (x ∷ xs))
+    go (Goes u) z ih = let k = ih u z in (omega (arith, k .0), omega (arith, k .1))
+    go Ends z ih = let y : i ≡ v = cc in (omega arith, omega arith)
+    go Broken z ih = no-end z
+
 module _ (raw : ℕ → List ℕ → Bool) (codes : List ℕ) where
   -- what follows where field j has ended with the text f
   abbrev pub ended : ℕ → List ℕ → ℕ → List ℕ → Walk
