@@ -6,3 +6,5 @@ pub mod Marked
 pub mod LineCases
 pub mod Head
 pub mod HeadCases
+pub mod Tied
+pub mod LinesCases

@@ -196,7 +196,7 @@ number-some n = go (ltb n 128)
     go true = omega arith
     go false = omega arith
 
-laid-some : (code : ℕ) (t : List ℕ) (v : List ℕ) → laidFrom code t ≡ some v → 1 ≤ length v
+pub laid-some : (code : ℕ) (t : List ℕ) (v : List ℕ) → laidFrom code t ≡ some v → 1 ≤ length v
 unfolding laidFrom
 laid-some code t v e = go (eqb (length t) 0) (eqb code 3) (eqb code 11) e
   where
@@ -336,17 +336,22 @@ pub laid-row-long : (codes xs : List ℕ) → length (laidRow codes xs) ≡ leng
 laid-row-long [] xs = refl
 laid-row-long (c ∷ cs) xs = ap suc (laid-row-long cs (fieldBehind xs))
 
+pub row-parts : (codes xs : List ℕ) → length (rowOctets (laidRow codes xs))
+    ≡ 4 + Presence.room (length codes) + length (valuesOf (laidRow codes xs))
+row-parts codes xs =
+    let row : Row = laidRow codes xs in
+    let a = row-length row in
+    let b = length-append (presenceOf row) (valuesOf row) in
+    let c = presence-length row ∙ ap Presence.room (laid-row-long codes xs) in
+    omega arith
+
 module _ (codes xs d : List ℕ) (at from k : ℕ) (room : at + length (rowOctets (laidRow codes xs)) ≤ length d)
     (few : length codes ≤ 16) (z : k ≡ Presence.room (length codes)) where
   abbrev row : Row
   row = laidRow codes xs
 
   parts-long : length (rowOctets row) ≡ 4 + k + length (valuesOf row)
-  parts-long =
-      let a = row-length row in
-      let b = length-append (presenceOf row) (valuesOf row) in
-      let c = presence-length row ∙ ap Presence.room (laid-row-long codes xs) in
-      omega arith
+  parts-long = let a = row-parts codes xs in omega arith
 
   pub record-room : at + 4 + k + length (valuesOf row) ≤ length d
   record-room = let a = parts-long in omega arith

@@ -13,8 +13,12 @@ ghost use Rattle.octets.specs.Splice.{splice};
 ghost use Rattle.answers.specs.Numbers.{mostOctets, mostOpened};
 ghost use Rattle.presence.specs.Presence.{setBit};
 ghost use Rattle.entry.specs.Record.{valuesOf, rowOctets};
+ghost use Rattle.book.specs.Rows.{rowsOctets};
 ghost use Rattle.sheet.specs.Field.{mostChosen};
+ghost use Rattle.sheet.specs.One.{Exported};
 ghost use Rattle.importing.specs.Fields.{laidRow, lineLong};
+ghost use Rattle.importing.specs.Tied.{Taken, rowsOf};
+ghost use Rattle.importing.specs.LinesCases.{linesGiven, recordsPut};
 ghost use Rattle.importing.specs.Lines.{keyHeld, lineFrom, recordFrom, noLine, valuesPut, linePut};
 
 // What the calls for a line answer; where it is clear, how many octets are written behind it and where it ends, else 0.
@@ -164,4 +168,58 @@ fn put_record(out: &mut [u8], at: usize, s: &[u8], from: usize, codes: &[u32]) -
     octets::copy(out, at + 4, &bits[0..k]);
     octets::put_word(out, at, 4, (put.written - at) as u64);
     put
+}
+
+// ---- all lines
+
+// What the writer's calls answer to all lines and the finish, w octets being written and n lent; the header record has
+// been opened before them.
+pub fn judge_lines(s: &[u8], codes: &[u32], flags: &[u32], w: usize, n: usize) -> Verdict
+    requires { ⌜ Taken (now codes) (now s) × Exported (now codes) × (length (now codes) ≤ mostChosen) ⌝ }
+    ensures { λ r. ⌜ r ≡ linesGiven (now (codes .entry)) (now (flags .entry)) w n
+        (rowsOf (now (codes .entry)) (now (s .entry))) ⌝ }
+{
+    let mut opened = 1;
+    let mut k = w;
+    let mut at = 0;
+    while at < s.len() {
+        let line = judge_record(s, at, codes, flags, k, n, opened);
+        let v = line.verdict;
+        let Verdict::Clear = v else {
+            return v;
+        };
+        k = line.written;
+        at = line.end;
+        opened += 1;
+    }
+    if opened < 2 {
+        return refuse(answers::BREAKS_RULE, 0);
+    }
+    Verdict::Clear
+}
+
+// How many octets are written behind the last record, and how many records there are.
+pub struct Records {
+    pub written: usize,
+    pub count: usize,
+}
+
+// Each line as a record, laid down from `w` on.
+pub fn put_lines(out: &mut [u8], w: usize, s: &[u8], codes: &[u32]) -> Records
+    requires { ⌜ Taken (now codes) (now s) × (length (now codes) ≤ mostChosen)
+        × (w + length (rowsOctets (rowsOf (now codes) (now s))) ≤ length (now out)) ⌝ }
+    ensures { λ r. ⌜ (r ≡ recordsPut w (rowsOf (now (codes .entry)) (now (s .entry))))
+        × (now (out .exit) ≡ splice (now (out .entry)) w
+        (rowsOctets (rowsOf (now (codes .entry)) (now (s .entry))))) ⌝ }
+{
+    let mut count = 0;
+    let mut k = w;
+    let mut at = 0;
+    while at < s.len() {
+        let put = put_record(out, k, s, at, codes);
+        k = put.written;
+        at = put.end;
+        count += 1;
+    }
+    Records { written: k, count }
 }
