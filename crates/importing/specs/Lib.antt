@@ -8,3 +8,6 @@ pub mod Head
 pub mod HeadCases
 pub mod Tied
 pub mod LinesCases
+pub mod From
+pub mod Fitting
+pub mod Steps

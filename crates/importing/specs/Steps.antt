@@ -1,0 +1,57 @@
+-- The call as its code goes on once the first line is read: s are the lines behind it, of these tags, and stand at
+-- `width`.
+use Prim.Native.Nat.{ℕ, _+_, _-_}
+use mathlib.Core.List.{List, [], _∷_, _++_}
+use lib.ListN.{length, drop, replicate}
+use Rattle.octets.specs.Splice.{stored}
+use Rattle.answers.specs.declared.Verdict.{Verdict}
+use Rattle.answers.specs.Verdict.{_then_, kept}
+use Rattle.answers.specs.declared.Made.{Made}
+use Rattle.answers.specs.Made.{answered}
+use Rattle.book.specs.Book.{Book, bookOctets, headSlots}
+use Rattle.writing.specs.State.{inProgress}
+use Rattle.writing.specs.declared.Writing.{Writing}
+use Rattle.begin.specs.Begin.{startSize, beginAt, columnsFrom}
+use Rattle.sheet.specs.Field.{mostChosen, codesOf}
+use Rattle.importing.specs.Head.{offeredIn}
+use Rattle.importing.specs.From.{askedAt, bookWith, callsAt}
+use Rattle.importing.specs.Tied.{rowsOf}
+
+unfoldable pub codesFor : List ℕ → List ℕ
+codesFor tags = codesOf tags ++ replicate (mostChosen - length tags) 0
+
+unfoldable pub restBook : List ℕ → List ℕ → List ℕ → List ℕ → List ℕ → List ℕ → Book
+restBook tags flags ht hf hrec s = bookWith tags flags ht hf hrec (rowsOf (codesOf tags) s)
+
+-- begin, the header record as it is offered, and the calls
+unfoldable pub givenAt : List ℕ → List ℕ → List ℕ → List ℕ → List ℕ → List ℕ → ℕ → Verdict
+givenAt tags flags ht hf hrec s n =
+    beginAt ht hf tags flags n
+    then offeredIn (headSlots (columnsFrom ht hf)) hrec
+    then callsAt (restBook tags flags ht hf hrec s) (startSize (length ht) (length tags)) n
+
+unfoldable pub restAt : List ℕ → List ℕ → List ℕ → List ℕ → List ℕ → ℕ → List ℕ → ℕ → Verdict
+restAt tags flags ht hf hrec width s n = askedAt tags flags width s then givenAt tags flags ht hf hrec s n
+
+unfoldable pub restAnswer : List ℕ → List ℕ → List ℕ → List ℕ → List ℕ → ℕ → List ℕ → List ℕ → Made
+restAnswer tags flags ht hf hrec width s d =
+    answered (restAt tags flags ht hf hrec width s (length d)) (length (bookOctets (restBook tags flags ht hf hrec s)))
+
+unfoldable pub restOctets : List ℕ → List ℕ → List ℕ → List ℕ → List ℕ → ℕ → List ℕ → List ℕ → List ℕ
+restOctets tags flags ht hf hrec width s d =
+    kept (restAt tags flags ht hf hrec width s (length d)) d
+    (stored d 0 (bookOctets (restBook tags flags ht hf hrec s)))
+
+-- a writing whose records are all closed
+abbrev pub closedBy : ℕ → ℕ → ℕ → ℕ → Writing
+closedBy w h a k = record {
+  written = w;
+  header = h;
+  address = a;
+  opened = k;
+  start = 0;
+  next = 0;
+  left = 0;
+  form = 0;
+  stage = inProgress;
+}
