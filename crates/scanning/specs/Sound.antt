@@ -17,7 +17,7 @@ use Rattle.whole.specs.Number.{encodeNumber}
 use Rattle.whole.specs.Laws.{number-octets}
 use Rattle.text.specs.Narrow.{NoZero}
 use Rattle.text.specs.Utf8.{textOf}
-use Rattle.text.specs.Text.{encodeText, Chars, Text, text-sound}
+use Rattle.text.specs.Text.{encodeText, Chars, text-sound}
 use Rattle.value.specs.Types.{formIn, numberOf, formAt, formOf}
 use Rattle.value.specs.Encode.{aNumber, aTruth, aNarrow, aText}
 use Rattle.value.specs.Form.{IsValue}
