@@ -1,12 +1,13 @@
 -- The ways of the code that scans numbers and truths, on plain values. Digits are no marks.
 use Prim.Native.Nat.{ℕ, _+_, _≤_, _<_}
+use native.Mathlib.Omega.{arith}
 use mathlib.Core.Path.{_≡_, sym, ap, _∙_}
 use mathlib.Core.Bool.{Bool, true, false, cond}
 use mathlib.Core.List.{List, []}
 use lib.Dec.{eqb, leb}
 use lib.ListN.{length, drop, getD, drop-of-length-le}
 use borrow.Author.Tests.{le-leb, lt-leb, eq-eqb, ne-eqb, leb-true}
-use Rattle.octets.specs.Cases.{taken, same-either}
+use Rattle.octets.specs.Cases.{split, taken, same-either}
 use Rattle.octets.specs.Octets.{octetAt, drop-next}
 use Rattle.answers.specs.declared.Walk.{Walk}
 use Rattle.answers.specs.declared.Walk.the-variants.{Ends as WalkEnds, Broken as WalkBroken}
@@ -27,18 +28,21 @@ module _ (c : ℕ) (s : isString c ≡ false) where
   not-number n = two-types c s (λ p. absurd (n p)) (λ p. p)
 
   module _ (x : ℕ) where
-    pub spelt-low : x < 48 → false ≡ spells c x
-    unfolding spells
-    spelt-low h =
-        two-types c s (λ p. rw (p, lt-leb 48 x h)) (λ p. rw (p, lt-leb 48 x h))
+    pub spelt-number : (r : Bool) → c ≡ 3 → r ≡ spells numbers x → r ≡ spells c x
+    spelt-number r e q = rw e q
 
-    pub spelt-number : 48 ≤ x → c ≡ 3 → leb x 57 ≡ spells c x
+    pub spelt-zero : (c ≡ 3 → ⊥) → x ≡ 48 → true ≡ spells c x
     unfolding spells
-    spelt-number h e = rw (e, le-leb 48 x h)
+    spelt-zero n e = rw (not-number n, e)
 
-    pub spelt-truth : 48 ≤ x → (c ≡ 3 → ⊥) → leb x 49 ≡ spells c x
+    pub spelt-one : (c ≡ 3 → ⊥) → (x ≡ 48 → ⊥) → eqb x 49 ≡ spells c x
     unfolding spells
-    spelt-truth h n = rw (not-number n, le-leb 48 x h)
+    spelt-one n m =
+        rw (not-number n)
+        (split x 48 (λ h. rw (lt-leb 48 x h, ne-eqb x 49 (omega arith)))
+        (λ h. rw (le-leb 48 x h)
+        (split 49 x (λ l. rw (lt-leb x 49 l, ne-eqb x 49 (omega arith)))
+        (λ l. rw (le-leb x 49 l, eq-eqb x 49 (omega arith))))))
 
     module _ (f : ℕ) where
       pub takes-full : f ≡ 2 → false ≡ takes c f x
@@ -124,7 +128,7 @@ module _ (c : ℕ) (s : isString c ≡ false) where
         pub on-behind : st ≡ Behind → r ≡ stepOf c e Behind x → r ≡ stepOf c e st x
         on-behind z q = rw z q
 
-pub ruleset speltCases = (spelt-low, spelt-number, spelt-truth)
+pub ruleset speltCases = (spelt-number, spelt-zero, spelt-one)
 
 pub ruleset takesCases = (takes-full, takes-is)
 

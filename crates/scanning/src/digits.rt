@@ -16,18 +16,27 @@ ghost use Rattle.scanning.specs.Steps.{spells, filled, takes, stepOf, fi
 ghost use Rattle.scanning.specs.FieldBack.{AnEnd};
 ghost use Rattle.scanning.specs.Passing.{passFrom};
 
-// Whether x is a digit of a number, or 0 or 1.
-fn is_spelt(code: u32, x: u8) -> bool
-    requires { ⌜ isString code ≡ false ⌝ }
-    ensures { λ r. ⌜ r ≡ spells code x ⌝ }
+fn is_digit(x: u8) -> bool
+    ensures { λ r. ⌜ r ≡ spells numbers x ⌝ }
 {
     if x < 48 {
         return false;
     }
+    x <= 57
+}
+
+// Whether x is a digit of a number, or a truth's 0 or 1.
+fn is_spelt(code: u32, x: u8) -> bool
+    requires { ⌜ isString code ≡ false ⌝ }
+    ensures { λ r. ⌜ r ≡ spells code x ⌝ }
+{
     if code == NUMBERS {
-        return x <= 57;
+        return is_digit(x);
     }
-    x <= 49
+    if x == 48 {
+        return true;
+    }
+    x == 49
 }
 
 fn is_taken(code: u32, fill: u8, x: u8) -> bool
@@ -130,15 +139,6 @@ pub fn walk_steps(text: &[u8], at: usize, code: u32, end: u8) -> Walk
         }
     }
     Walk::Broken(i)
-}
-
-fn is_digit(x: u8) -> bool
-    ensures { λ r. ⌜ r ≡ spells numbers x ⌝ }
-{
-    if x < 48 {
-        return false;
-    }
-    x <= 57
 }
 
 // Digits up to the end.
