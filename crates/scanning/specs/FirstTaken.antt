@@ -87,13 +87,9 @@ hex-digits k a (x ∷ ds) h =
 
 -- ---- what is spelt so is taken
 
-none-doubled : doubled [] ≡ []
-unfolding doubled
-none-doubled = refl
-
 plain-doubled : (t : List ℕ) → marked t ≡ false → doubled t ≡ t
-unfolding marked
-plain-doubled [] m = none-doubled
+unfolding marked doubled
+plain-doubled [] m = refl
 plain-doubled (x ∷ t) m =
     taken (isMark x) _ _ _ m (λ p q. unlike (sym q))
     (λ p q. doubled-other x t (λ z. unlike (sym p ∙ ap isMark z ∙ mark-quote))

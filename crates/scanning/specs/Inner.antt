@@ -208,7 +208,7 @@ undo (m ∷ k ∷ ms) t h e =
 
 -- ---- UTF-8 before and behind
 
-ends-is : (r : Walk) (n : ℕ) → endsAt r n ≡ true → r ≡ WalkEnds n
+pub ends-is : (r : Walk) (n : ℕ) → endsAt r n ≡ true → r ≡ WalkEnds n
 ends-is (WalkEnds w) n e = ap WalkEnds (eqb-true w n e)
 ends-is (WalkBroken p) n e = unlike e
 

@@ -12,14 +12,14 @@ use borrow.Author.Tests.{le-leb, ne-eqb, eqb-true, eqb-false}
 use Rattle.octets.specs.Cases.{same-either}
 use Rattle.answers.specs.declared.Walk.{Walk}
 use Rattle.answers.specs.declared.Walk.the-variants.{Ends as WalkEnds, Broken as WalkBroken}
-use Rattle.sheet.specs.Field.{numbers, truths, quote, isMark}
+use Rattle.sheet.specs.Field.{numbers, quote, isMark}
 use Rattle.sheet.specs.Marks.{mark-quote, no-mark}
 use Rattle.sheet.specs.Values.{isString}
 use Rattle.scanning.specs.declared.Stage.{Stage}
 use Rattle.scanning.specs.declared.Stage.the-variants.{Outside, Inside, Behind}
 use Rattle.scanning.specs.declared.Step.the-variants.{Goes, Ends, Broken}
 use Rattle.scanning.specs.Steps.{spells, takes, filled, stepOf, moved, fieldFrom, digit-plain}
-use Rattle.scanning.specs.Steps.{string-takes, string-filled}
+use Rattle.scanning.specs.Steps.{string-takes, string-filled, string-zero}
 use Rattle.scanning.specs.FieldBack.{AnEnd}
 use Rattle.scanning.specs.Runs.{field-step}
 
@@ -68,17 +68,6 @@ module _ (plain : ℕ → Bool) (code e : ℕ) where
   passes t h (x ∷ xs) i = pass-step t t i x xs (h x) (passes t h xs (i + 1))
 
 module _ (code e : ℕ) (s : isString code ≡ true) (a : AnEnd e) where
-  zero-not : (fill : ℕ) → takes code fill 0 ≡ false
-  unfolding takes spells isString
-  zero-not fill = go (eqb fill 2) (eqb code numbers) (eqb code truths) s
-    where
-      go : (b c d : Bool) → cond c false (cond d false true) ≡ true
-          → cond b false (cond c false (cond d false false)) ≡ false
-      go true c d q = refl
-      go false true d q = refl
-      go false false true q = refl
-      go false false false q = refl
-
   -- ---- one octet
 
   inside-octet : (fill x : ℕ) → (fill ≡ 2 → ⊥)
@@ -87,7 +76,7 @@ module _ (code e : ℕ) (s : isString code ≡ true) (a : AnEnd e) where
   unfolding stepOf
   inside-octet fill x n =
       elim (ℕ-discrete x 0) [
-        | yes z ↦ rw (z, zero-not fill)
+        | yes z ↦ rw (z, string-zero code fill s)
         | no z ↦ rw (ne-eqb x 0 z, string-takes code fill x s n z, string-filled code fill x s)
       ]
 
@@ -104,7 +93,7 @@ module _ (code e : ℕ) (s : isString code ≡ true) (a : AnEnd e) where
       plain : isMark x ≡ false → (b : Bool) → eqb x 0 ≡ b
           → cond (takes code fill x) (Goes (Outside (filled code fill x))) Broken
           ≡ cond (cond b false true) (Goes (Outside 1)) Broken
-      plain p true z = rw (eqb-true x 0 z, zero-not fill)
+      plain p true z = rw (eqb-true x 0 z, string-zero code fill s)
       plain p false z = rw (string-takes code fill x s n (eqb-false x 0 z), string-filled code fill x s)
 
       late : (b : Bool) → eqb x quote ≡ b → (c : Bool) → eqb fill 0 ≡ c

@@ -89,6 +89,17 @@ module _ (code fill x : ℕ) (s : isString code ≡ true) where
       go false true e = unlike e
       go false false e = refl
 
+pub string-zero : (code fill : ℕ) → isString code ≡ true → takes code fill 0 ≡ false
+unfolding takes spells isString
+string-zero code fill s = go (eqb fill 2) (eqb code numbers) (eqb code truths) s
+  where
+    go : (a b c : Bool) → cond b false (cond c false true) ≡ true
+        → cond a false (cond b false (cond c false false)) ≡ false
+    go true b c q = refl
+    go false true c q = refl
+    go false false true q = refl
+    go false false false q = refl
+
 -- ---- numbers and truths
 
 -- a type that is no string is one of these
