@@ -1,64 +1,48 @@
 -- The ways of the code that scans numbers and truths, on plain values. Digits are no marks.
 use Prim.Native.Nat.{ℕ, _+_, _≤_, _<_}
 use native.Mathlib.Omega.{arith}
-use mathlib.Core.Path.{_≡_, refl, sym, ap, _∙_}
+use mathlib.Core.Path.{_≡_, sym, ap, _∙_}
 use mathlib.Core.Bool.{Bool, true, false, cond}
 use mathlib.Core.List.{List, []}
 use lib.Dec.{eqb, leb}
 use lib.ListN.{length, drop, getD, drop-of-length-le}
-use borrow.Author.Tests.{le-leb, lt-leb, eq-eqb, ne-eqb, eqb-true}
+use borrow.Author.Tests.{le-leb, lt-leb, eq-eqb, ne-eqb, leb-true}
 use Rattle.octets.specs.Cases.{split, taken, same-either}
 use Rattle.octets.specs.Octets.{octetAt, drop-next}
 use Rattle.answers.specs.declared.Walk.{Walk}
 use Rattle.answers.specs.declared.Walk.the-variants.{Ends as WalkEnds, Broken as WalkBroken}
 use Rattle.entry.specs.Record.{unlike}
-use Rattle.sheet.specs.Field.{numbers, truths, quote, comma, cr, lf, isMark}
+use Rattle.sheet.specs.Field.{numbers, isMark}
 use Rattle.sheet.specs.Values.{isString}
 use Rattle.scanning.specs.declared.Stage.{Stage}
 use Rattle.scanning.specs.declared.Stage.the-variants.{Outside, Inside, Behind}
 use Rattle.scanning.specs.declared.Step.{Step}
 use Rattle.scanning.specs.declared.Step.the-variants.{Goes, Ends, Broken}
-use Rattle.scanning.specs.Steps.{spells, filled, takes, stepOf, moved, fieldFrom}
+use Rattle.scanning.specs.Steps.{spells, filled, takes, stepOf, moved, fieldFrom, two-types, digit-plain}
+use Rattle.scanning.specs.FieldBack.{AnEnd}
 use Rattle.scanning.specs.Runs.{field-none, field-step}
-
--- a type that is no string is one of two
-two-types : {X : Type 0} (c : ℕ) → isString c ≡ false → (c ≡ numbers → X) → (c ≡ truths → X) → X
-unfolding isString
-two-types c s f g =
-    taken (eqb c numbers) _ _ _ s (λ p q. f (eqb-true c numbers p))
-    (λ p q. taken (eqb c truths) _ _ _ q (λ p q. g (eqb-true c truths p)) (λ p q. unlike (sym q)))
+use Rattle.scanning.specs.Passing.{passFrom, number-kind, number-is}
 
 module _ (c : ℕ) (s : isString c ≡ false) where
   not-number : (c ≡ 3 → ⊥) → c ≡ 11
   not-number n = two-types c s (λ p. absurd (n p)) (λ p. p)
 
   module _ (x : ℕ) where
-    pub spelt-low : x < 48 → false ≡ spells c x
-    unfolding spells
-    spelt-low h =
-        two-types c s (λ p. rw (p, lt-leb 48 x h)) (λ p. rw (p, lt-leb 48 x h))
+    pub spelt-number : (r : Bool) → c ≡ 3 → r ≡ spells numbers x → r ≡ spells c x
+    spelt-number r e q = rw e q
 
-    pub spelt-number : 48 ≤ x → c ≡ 3 → leb x 57 ≡ spells c x
+    pub spelt-zero : (c ≡ 3 → ⊥) → x ≡ 48 → true ≡ spells c x
     unfolding spells
-    spelt-number h e = rw (e, le-leb 48 x h)
+    spelt-zero n e = rw (not-number n, e)
 
-    pub spelt-truth : 48 ≤ x → (c ≡ 3 → ⊥) → leb x 49 ≡ spells c x
+    pub spelt-one : (c ≡ 3 → ⊥) → (x ≡ 48 → ⊥) → eqb x 49 ≡ spells c x
     unfolding spells
-    spelt-truth h n = rw (not-number n, le-leb 48 x h)
-
-    digit-plain : spells c x ≡ true → isMark x ≡ false
-    unfolding isMark
-    digit-plain h =
-        let l = low in
-        rw (
-          ne-eqb x comma (omega arith),
-          ne-eqb x quote (omega arith),
-          ne-eqb x cr (omega arith),
-          ne-eqb x lf (omega arith),
-        )
-      where
-        low : 48 ≤ x
-        low = split x 48 (λ l. unlike (spelt-low l ∙ h)) (λ l. l)
+    spelt-one n m =
+        rw (not-number n)
+        (split x 48 (λ h. rw (lt-leb 48 x h, ne-eqb x 49 (omega arith)))
+        (λ h. rw (le-leb 48 x h)
+        (split 49 x (λ l. rw (lt-leb x 49 l, ne-eqb x 49 (omega arith)))
+        (λ l. rw (le-leb x 49 l, eq-eqb x 49 (omega arith))))))
 
     module _ (f : ℕ) where
       pub takes-full : f ≡ 2 → false ≡ takes c f x
@@ -87,7 +71,7 @@ module _ (c : ℕ) (s : isString c ≡ false) where
 
       taken-plain : takes c f x ≡ true → isMark x ≡ false
       unfolding takes
-      taken-plain h = taken (eqb f 2) _ _ _ h (λ p q. unlike q) (λ p q. digit-plain q)
+      taken-plain h = taken (eqb f 2) _ _ _ h (λ p q. unlike q) (λ p q. digit-plain c x s q)
 
       module _ (e : ℕ) where
         pub out-ends : x ≡ e → Ends ≡ stepOf c e (Outside f) x
@@ -144,7 +128,7 @@ module _ (c : ℕ) (s : isString c ≡ false) where
         pub on-behind : st ≡ Behind → r ≡ stepOf c e Behind x → r ≡ stepOf c e st x
         on-behind z q = rw z q
 
-pub ruleset speltCases = (spelt-low, spelt-number, spelt-truth)
+pub ruleset speltCases = (spelt-number, spelt-zero, spelt-one)
 
 pub ruleset takesCases = (takes-full, takes-is)
 
@@ -184,3 +168,44 @@ module _ (c e : ℕ) (text : List ℕ) (at i : ℕ) (st : Stage)
       sym (field-none c e st i) ∙ ap (fieldFrom c e st i) (sym (drop-of-length-le text {i = i} h)) ∙ inv
 
 pub ruleset digitsCases = (digits-end, digits-broken, digits-on, digits-over)
+
+-- ---- a number
+
+module _ (x : ℕ) where
+  pub digit-low : x < 48 → false ≡ spells numbers x
+  unfolding spells
+  digit-low h = rw (lt-leb 48 x h)
+
+  pub digit-high : 48 ≤ x → leb x 57 ≡ spells numbers x
+  unfolding spells
+  digit-high h = rw (le-leb 48 x h)
+
+  pub first-low : x < 49 → false ≡ cond (leb 49 x) (leb x 57) false
+  first-low h = rw (lt-leb 49 x h)
+
+  pub first-high : 49 ≤ x → leb x 57 ≡ cond (leb 49 x) (leb x 57) false
+  first-high h = rw (le-leb 49 x h)
+
+pub ruleset digitCases = (digit-low, digit-high, first-low, first-high)
+
+module _ (e : ℕ) (text : List ℕ) (at : ℕ) where
+  pub number-none : length text ≤ at → WalkBroken at ≡ fieldFrom numbers e (Outside 0) at (drop at text)
+  number-none h =
+      sym (ap (fieldFrom numbers e (Outside 0) at) (drop-of-length-le text {i = at} h)
+      ∙ field-none numbers e (Outside 0) at)
+
+  pub number-more : AnEnd e → at < length text → (b : Bool)
+      → b ≡ cond (leb 49 (getD text at 0)) (leb (getD text at 0) 57) false
+      → b ≡ true → (r : Walk) → r ≡ passFrom (spells numbers) e (at + 1) (drop (at + 1) text)
+      → r ≡ fieldFrom numbers e (Outside 0) at (drop at text)
+  number-more a h b q z r p =
+      taken (leb 49 (getD text at 0)) _ _ _ (sym q ∙ z)
+      (λ k l. let f = leb-true 49 (getD text at 0) k in
+      let t = leb-true (getD text at 0) 57 l in
+      p
+      ∙ sym
+      (ap (fieldFrom numbers e (Outside 0) at) (drop-next text at h)
+      ∙ number-is e a at (getD text at 0) (drop (at + 1) text) f t))
+      (λ k l. unlike l)
+
+pub ruleset numberCases = (number-none, number-more, number-kind)

@@ -3,13 +3,13 @@
 use Prim.Native.Nat.{ℕ, zero, suc, _+_, _≤_, _<_}
 use native.Mathlib.Nat.{add-zero, zero-add}
 use native.Mathlib.Omega.{arith}
-use mathlib.Core.Path.{_≡_, refl, sym, ap, ap₂, _∙_}
+use mathlib.Core.Path.{_≡_, refl, sym, ap, _∙_}
 use mathlib.Core.Bool.{Bool, true, false}
 use mathlib.Core.List.{List, [], _∷_, _++_, append-assoc}
 use lib.Dec.{eqb}
 use lib.ListN.{length, take, drop, getD, length-append}
 use lib.Seq.{take-append-seam}
-use borrow.Author.Tests.{le-ltb, ne-eqb, eqb-true}
+use borrow.Author.Tests.{ne-eqb, eqb-true}
 use Rattle.octets.specs.Cases.{taken}
 use Rattle.answers.specs.declared.Walk.{Walk}
 use Rattle.answers.specs.declared.Walk.the-variants.{Ends as WalkEnds, Broken as WalkBroken}
@@ -20,10 +20,10 @@ use Rattle.sheet.specs.Back.{Spells, content-back}
 use Rattle.scanning.specs.declared.Stage.the-variants.{Outside}
 use Rattle.scanning.specs.Steps.{holds, fieldFrom}
 use Rattle.scanning.specs.Scan.{held, endAt, atStart, scanFrom, scanIn}
-use Rattle.scanning.specs.Sheets.{FieldThen, IsLine, LineThen, IsText, GoodLine, GoodText, lines-are}
+use Rattle.scanning.specs.Sheets.{IsLine, IsText, GoodLine, GoodText, lines-are}
 use Rattle.scanning.specs.FieldBack.{end-is, field-back}
-use Rattle.scanning.specs.FieldSound.{FieldIs, field-sound}
-use Rattle.scanning.specs.Runs.{Runs, runs, fails, stops, due-is, code-at, none-left, drop-past}
+use Rattle.scanning.specs.FieldSound.{field-sound}
+use Rattle.scanning.specs.Runs.{runs, fails, stops, due-is, code-at, none-left, drop-past}
 
 module _ (good : ℕ → List ℕ → Bool) (codes : List ℕ) where
   -- j fields of a line are done

@@ -7,11 +7,10 @@ use mathlib.Core.List.{List, [], _∷_, _++_}
 use lib.Dec.{eqb}
 use lib.ListN.{length, length-append}
 use lib.Seq.{append-snoc}
-use borrow.Author.Tests.{eq-eqb, ne-eqb, eqb-true, eqb-false}
+use borrow.Author.Tests.{eqb-true, eqb-false}
 use Rattle.answers.specs.declared.Walk.{Walk}
 use Rattle.answers.specs.declared.Walk.the-variants.{Ends as WalkEnds}
 use Rattle.answers.specs.Walk.{no-end}
-use Rattle.entry.specs.Record.{unlike}
 use Rattle.sheet.specs.Field.{quote, numbers, truths, isMark, marked, doubled, quoted}
 use Rattle.sheet.specs.Marks.{doubled-quote, doubled-other}
 use Rattle.sheet.specs.Back.{Spells, plainly, inQuotes}

@@ -48,11 +48,11 @@ module _ (n x : ℕ) where
 
   pub end-more : (x ≡ 13 → ⊥) → x ≡ 44 → n < 15 → Tag (InTag false 0) ≡ nextEnd n x
   unfolding nextEnd
-  end-more h e l = rw (e, lt-ltb (n + 1) 16 (omega arith))
+  end-more h e l = rw (e, lt-ltb (n + 1) mostTags (omega arith))
 
   pub end-full : (x ≡ 13 → ⊥) → x ≡ 44 → 15 ≤ n → Stop ≡ nextEnd n x
   unfolding nextEnd
-  end-full h e l = rw (e, le-ltb (n + 1) 16 (omega arith))
+  end-full h e l = rw (e, le-ltb (n + 1) mostTags (omega arith))
 
   pub end-none : (x ≡ 13 → ⊥) → (x ≡ 44 → ⊥) → Stop ≡ nextEnd n x
   unfolding nextEnd

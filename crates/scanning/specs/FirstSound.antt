@@ -1,6 +1,6 @@
 -- A first line that is taken is spelt in a permitted way, and its tags are what its digits say. Each octet is undone: a
 -- good tail behind it is a good tail with it. Assumes nothing.
-use Prim.Native.Nat.{ℕ, zero, suc, _+_, _*_, _%_, _^_, _≤_, _<_}
+use Prim.Native.Nat.{ℕ, suc, _+_, _*_, _%_, _^_, _≤_, _<_}
 use native.Mathlib.Nat.{zero-add}
 use native.Mathlib.Omega.{arith}
 use mathlib.Core.Path.{_≡_, refl, sym, ap, subst, _∙_}
@@ -8,7 +8,6 @@ use mathlib.Core.Bool.{Bool, true, false, cond}
 use mathlib.Core.List.{List, [], _∷_, _++_, append-assoc, append-nil}
 use lib.Dec.{eqb, ltb}
 use lib.ListN.{length, length-append}
-use lib.Seq.{append-snoc}
 use borrow.Author.Tests.{ltb-true, ltb-false, eqb-true}
 use Rattle.entry.specs.Record.{unlike}
 use Rattle.sheet.specs.Digits.{digitsOf}

@@ -5,26 +5,23 @@ use native.Mathlib.Nat.{add-zero, zero-add, pow-suc}
 use native.Mathlib.Numerals.{add-one}
 use native.Mathlib.Omega.{arith}
 use mathlib.Core.Path.{_≡_, refl, sym, ap, ap₂, _∙_}
-use mathlib.Core.Bool.{Bool, true, false, cond}
+use mathlib.Core.Bool.{Bool, true, false}
 use mathlib.Core.List.{List, [], _∷_, _++_, append-assoc, append-nil}
-use lib.Dec.{eqb, ltb}
 use lib.ListN.{length, length-append}
 use lib.Seq.{append-snoc}
-use borrow.Author.Tests.{lt-ltb, le-ltb, le-leb, lt-leb, ltb-true, ltb-false, eqb-true}
+use borrow.Author.Tests.{lt-ltb, le-ltb, le-leb, lt-leb}
 use Rattle.octets.specs.Cases.{split, taken}
 use Rattle.entry.specs.Record.{unlike}
 use Rattle.sheet.specs.Digits.{digitOf, digitsOf, digits-long}
-use Rattle.sheet.specs.Field.{quote, comma, cr, lf, isMark, marked, doubled, quoted, endOf, lineOf}
+use Rattle.sheet.specs.Field.{quote, comma, cr, lf, isMark, marked, doubled, quoted, lineOf}
 use Rattle.sheet.specs.Field.{tagField, tagFields}
 use Rattle.sheet.specs.Marks.{mark-quote, digits-plain, doubled-other}
 use Rattle.sheet.specs.Back.{Spells, plainly, inQuotes, AllSpelt}
 use Rattle.scanning.specs.declared.Stand.{Stand}
-use Rattle.scanning.specs.declared.Stand.the-variants.{InTag, Behind, LineEnd}
-use Rattle.scanning.specs.declared.Next.{Next}
-use Rattle.scanning.specs.declared.Next.the-variants.{Goes, Tag, Done, Stop}
+use Rattle.scanning.specs.declared.Stand.the-variants.{InTag, Behind}
 use Rattle.scanning.specs.First.{mostTags, Words, IsFirst, digitIn, nextEnd, nextQuote, nextTag, nextOf}
-use Rattle.scanning.specs.First.{Headed, tagsTo, fault, gone, headFrom, headIn}
-use Rattle.scanning.specs.FirstKept.{Kept, NextKept, room, next-kept}
+use Rattle.scanning.specs.First.{tagsTo, headFrom, headIn}
+use Rattle.scanning.specs.FirstKept.{room}
 
 -- ---- digits
 
@@ -90,13 +87,9 @@ hex-digits k a (x ∷ ds) h =
 
 -- ---- what is spelt so is taken
 
-none-doubled : doubled [] ≡ []
-unfolding doubled
-none-doubled = refl
-
 plain-doubled : (t : List ℕ) → marked t ≡ false → doubled t ≡ t
-unfolding marked
-plain-doubled [] m = none-doubled
+unfolding marked doubled
+plain-doubled [] m = refl
 plain-doubled (x ∷ t) m =
     taken (isMark x) _ _ _ m (λ p q. unlike (sym q))
     (λ p q. doubled-other x t (λ z. unlike (sym p ∙ ap isMark z ∙ mark-quote))

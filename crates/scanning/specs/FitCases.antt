@@ -1,13 +1,16 @@
 -- The ways of the code that judges a field, on plain values.
-use Prim.Native.Nat.{ℕ, _+_, _-_, _*_, _≤_, _<_}
+use Prim.Native.Nat.{ℕ, zero, suc, _+_, _-_, _*_, _^_, _≤_, _<_}
+use native.Mathlib.Nat.{mul-le-mul-right, pow-suc}
 use native.Mathlib.Omega.{arith}
 use mathlib.Core.Path.{_≡_, refl, sym, ap, _∙_}
 use mathlib.Core.Bool.{Bool, true, false, cond}
 use mathlib.Core.List.{List, [], _∷_, _++_}
 use lib.Dec.{eqb, ltb}
 use lib.ListN.{length, take, drop, getD, drop-of-length-le}
+use mir.Syntax.{w8}
+use mir.Val.{Fits}
 use borrow.Author.Tests.{lt-ltb, le-ltb, ne-eqb}
-use Rattle.octets.specs.Octets.{octetAt, drop-next, no-octets}
+use Rattle.octets.specs.Octets.{Octets, octetAt, octets-from, drop-next, no-octets}
 use Rattle.answers.specs.Walk.{endsAt}
 use Rattle.text.specs.Utf8.{textOf}
 use Rattle.sheet.specs.Digits.{numberFrom, numberIn}
@@ -19,6 +22,28 @@ use Rattle.scanning.specs.Inner.{innerOf}
 grows : (a : ℕ) (ds : List ℕ) → a ≤ numberFrom a ds
 grows a [] = omega arith
 grows a (d ∷ ds) = let g = grows (a * 10 + (d - 48)) ds in omega arith
+
+-- k octets say less than this
+few-small : (k a : ℕ) (ds : List ℕ) → Octets ds → length ds ≤ k → numberFrom a ds + 23 ≤ (a + 23) * 10 ^ k
+few-small zero a [] o h = omega arith
+few-small zero a (d ∷ ds) o h = absurd (omega arith)
+few-small (suc k) a [] o h =
+    let p = pow-suc 10 k in
+    let ih = few-small k a [] o (omega arith) in
+    let e : (a + 23) * (10 ^ k * 10) ≡ (a + 23) * 10 ^ k * 10 = omega arith in
+    rw p (omega arith)
+few-small (suc k) a (d ∷ ds) o h =
+    let p = pow-suc 10 k in
+    let l = o 0 in
+    let ih = few-small k (a * 10 + (d - 48)) ds (λ i. o (suc i)) (omega arith) in
+    let m : (a * 10 + (d - 48) + 23) * 10 ^ k ≤ (a + 23) * 10 * 10 ^ k = mul-le-mul-right (10 ^ k) (omega arith) in
+    let e : (a + 23) * (10 ^ k * 10) ≡ (a + 23) * 10 * 10 ^ k = omega arith in
+    rw p (omega arith)
+
+pub small-few : (s : List ℕ) → length s < 9 → ((i : ℕ) → Fits w8 (getD s i 0)) → true ≡ ltb (numberIn s) 4294967296
+small-few s h f =
+    let l = few-small 8 0 s (octets-from s f) (omega arith) in
+    sym (lt-ltb (numberIn s) 4294967296 (omega arith))
 
 module _ (s : List ℕ) (i a : ℕ) (inv : numberFrom a (drop i s) ≡ numberIn s) where
   module _ (h : i < length s) (d : ℕ) (e : d ≡ getD s i 0 - 48) where
@@ -35,7 +60,7 @@ module _ (s : List ℕ) (i a : ℕ) (inv : numberFrom a (drop i s) ≡ numberIn 
   small-end h l =
       let n = rw (drop-of-length-le s {i = i} h) at inv in sym (lt-ltb (numberIn s) 4294967296 (omega arith))
 
-pub ruleset smallCases = (small-next, small-not, small-end)
+pub ruleset smallCases = (small-few, small-next, small-not, small-end)
 
 -- ---- between quotes
 

@@ -6,7 +6,7 @@ use native.Mathlib.Decide.{ℕ-discrete}
 use mathlib.Core.Path.{_≡_, refl, sym, ap, ap₂, _∙_}
 use mathlib.Core.Bool.{Bool, true, false, cond}
 use mathlib.Core.List.{List, [], _∷_, _++_, append-assoc, append-nil}
-use lib.Dec.{eqb, ltb}
+use lib.Dec.{eqb}
 use lib.ListN.{length, take, drop, length-append}
 use lib.Seq.{take-at}
 use borrow.Author.Tests.{lt-ltb, le-ltb, eq-eqb, ne-eqb, eqb-true, eqb-false}
@@ -17,9 +17,9 @@ use Rattle.answers.specs.declared.Walk.the-variants.{Ends as WalkEnds, Broken a
 use Rattle.answers.specs.Walk.{endsAt}
 use Rattle.text.specs.Char.{Scalar, encodeChar, first-some}
 use Rattle.text.specs.Utf8.{textOf}
-use Rattle.text.specs.Text.{encodeChars, encodeText, Chars, text-back, Text, text-sound}
+use Rattle.text.specs.Text.{encodeChars, encodeText, Chars, text-back, text-sound}
 use Rattle.entry.specs.Record.{unlike}
-use Rattle.sheet.specs.Field.{quote, numbers, texts, isMark, marked, twice, doubled, quoted}
+use Rattle.sheet.specs.Field.{quote, numbers, texts, isMark, marked, doubled, quoted}
 use Rattle.sheet.specs.Marks.{doubled-quote, doubled-other}
 use Rattle.sheet.specs.Back.{Spells, plainly, inQuotes}
 use Rattle.scanning.specs.Steps.{spells, filled, takes, holds}
@@ -208,7 +208,7 @@ undo (m ∷ k ∷ ms) t h e =
 
 -- ---- UTF-8 before and behind
 
-ends-is : (r : Walk) (n : ℕ) → endsAt r n ≡ true → r ≡ WalkEnds n
+pub ends-is : (r : Walk) (n : ℕ) → endsAt r n ≡ true → r ≡ WalkEnds n
 ends-is (WalkEnds w) n e = ap WalkEnds (eqb-true w n e)
 ends-is (WalkBroken p) n e = unlike e
 

@@ -16,7 +16,7 @@ pub mod FirstKept
 pub mod FirstTaken
 pub mod FirstSound
 pub mod FirstPlace
-pub mod Strings
+pub mod Passing
 pub mod DigitCases
 pub mod StringCases
 pub mod FitCases

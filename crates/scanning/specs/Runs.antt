@@ -1,6 +1,6 @@
 -- The machine goes over a field as the field is scanned: to its end, where the field is looked at and the next one
 -- begins, or to the octet at fault. Assumes nothing.
-use Prim.Native.Nat.{ℕ, zero, suc, _+_, _-_, _≤_, _<_}
+use Prim.Native.Nat.{ℕ, suc, _+_, _-_, _≤_, _<_}
 use native.Mathlib.Nat.{add-zero}
 use native.Mathlib.Omega.{arith}
 use native.Mathlib.Numerals.{add-one}

@@ -3,7 +3,7 @@
 use Prim.Native.Nat.{ℕ, zero, suc, _+_, _≤_, _<_}
 use native.Mathlib.Omega.{arith}
 use mathlib.Core.Path.{_≡_, refl, sym, ap, _∙_}
-use mathlib.Core.Bool.{Bool, true, false}
+use mathlib.Core.Bool.{Bool, true}
 use mathlib.Core.List.{List, [], _∷_, _++_}
 use lib.ListN.{length, take, drop, getD, length-append}
 use lib.Seq.{take-append-seam}
@@ -15,8 +15,8 @@ use Rattle.sheet.specs.Back.{Spells, content-back}
 use Rattle.scanning.specs.declared.Stage.the-variants.{Outside}
 use Rattle.scanning.specs.Steps.{holds, fieldFrom}
 use Rattle.scanning.specs.Scan.{fits, held, endAt, scanFrom, scanIn}
-use Rattle.scanning.specs.FieldSound.{FieldIs, field-sound}
-use Rattle.scanning.specs.Runs.{Runs, runs, fails, drop-past}
+use Rattle.scanning.specs.FieldSound.{field-sound}
+use Rattle.scanning.specs.Runs.{runs, fails, drop-past}
 use Rattle.scanning.specs.Inner.{innerOf, fits-inner}
 
 module _ (raw way : ℕ → List ℕ → Bool) (codes : List ℕ)

@@ -9,12 +9,12 @@ use lib.ListN.{length, take, drop, getD, length-drop, drop-of-length-le}
 use lib.Seq.{drop-drop}
 use mir.Syntax.{w64}
 use mir.Val.{Fits}
-use borrow.Author.Tests.{lt-ltb, le-ltb, le-leb, lt-leb, eq-eqb, ne-eqb}
+use borrow.Author.Tests.{lt-ltb, le-ltb, le-leb, lt-leb, ne-eqb}
 use Rattle.octets.specs.Cases.{split}
 use Rattle.octets.specs.Octets.{octetAt, drop-next}
 use Rattle.answers.specs.declared.Walk.{Walk}
 use Rattle.answers.specs.declared.Walk.the-variants.{Ends as WalkEnds, Broken as WalkBroken}
-use Rattle.sheet.specs.Field.{comma, cr, lf, endOf}
+use Rattle.sheet.specs.Field.{lf, endOf}
 use Rattle.sheet.specs.Values.{isString}
 use Rattle.scanning.specs.declared.Stage.the-variants.{Outside}
 use Rattle.scanning.specs.declared.Passed.{Passed}
@@ -25,7 +25,7 @@ use Rattle.scanning.specs.FieldBack.{AnEnd, end-is}
 use Rattle.scanning.specs.Runs.{Runs, runs, fails, field-within, due-is}
 use Rattle.scanning.specs.Inner.{innerOf}
 use Rattle.scanning.specs.Same.{inPlace, scan-in-place}
-use Rattle.scanning.specs.Strings.{stringFrom, string-is}
+use Rattle.scanning.specs.Passing.{stringFrom, string-is}
 
 -- a field of the text, from `at` up to v
 abbrev pub stretch : List ℕ → ℕ → ℕ → List ℕ
@@ -44,22 +44,7 @@ passedOf codes column at text =
     cond (leb (length codes) column) (cond (eqb (getD text at 0) lf) (On 0 (at + 1)) (Broken at))
     (fieldPassed (getD codes column 0) (endAt codes column) column at text)
 
--- ---- is_string, end_of, walk_field
-
-module _ (c : ℕ) where
-  pub kind-number : c ≡ 3 → false ≡ isString c
-  unfolding isString
-  kind-number e = rw e
-
-  pub kind-truth : c ≡ 11 → false ≡ isString c
-  unfolding isString
-  kind-truth e = rw e
-
-  pub kind-string : (c ≡ 3 → ⊥) → (c ≡ 11 → ⊥) → true ≡ isString c
-  unfolding isString
-  kind-string a b = rw (ne-eqb c 3 a, ne-eqb c 11 b)
-
-pub ruleset kindCases = (kind-number, kind-truth, kind-string)
+-- ---- end_of, walk_field
 
 module _ (j n : ℕ) where
   pub end-comma : j + 1 < n → _≡_ {A = ℕ} 44 (cond (ltb (j + 1) n) 44 13)
@@ -83,14 +68,24 @@ end-same codes j = go (drop (j + 1) codes) (length-drop (j + 1) codes)
     go [] l = rw (le-ltb (j + 1) (length codes) (omega arith))
     go (c ∷ cs) l = rw (lt-ltb (j + 1) (length codes) (omega arith))
 
-pub as-string : (code e : ℕ) (text : List ℕ) (at : ℕ) (b : Bool) (r : Walk) → AnEnd e → b ≡ isString code → b ≡ true
-    → r ≡ stringFrom e at (drop at text) → r ≡ fieldFrom code e (Outside 0) at (drop at text)
-as-string code e text at b r a q z k = k ∙ sym (string-is code e (sym q ∙ z) a at (drop at text))
+module _ (code e : ℕ) (text : List ℕ) (at : ℕ) (r : Walk) where
+  pub as-number : code ≡ 3 → r ≡ fieldFrom 3 e (Outside 0) at (drop at text)
+      → r ≡ fieldFrom code e (Outside 0) at (drop at text)
+  as-number z q = rw z q
 
-pub no-string : (code : ℕ) (b : Bool) → b ≡ isString code → b ≡ false → isString code ≡ false
-no-string code b q z = sym q ∙ z
+  pub as-string : AnEnd e → (code ≡ 3 → ⊥) → (code ≡ 11 → ⊥) → r ≡ stringFrom e at (drop at text)
+      → r ≡ fieldFrom code e (Outside 0) at (drop at text)
+  unfolding isString
+  as-string a n m q = q ∙ sym (string-is code e kind a at (drop at text))
+    where
+      kind : isString code ≡ true
+      kind = rw (ne-eqb code 3 n, ne-eqb code 11 m)
 
-pub ruleset fieldCases = (as-string, no-string)
+pub truth-kind : (code : ℕ) → code ≡ 11 → isString code ≡ false
+unfolding isString
+truth-kind code e = rw e
+
+pub ruleset fieldCases = (as-number, as-string, truth-kind)
 
 -- ---- pass_field
 

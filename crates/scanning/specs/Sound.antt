@@ -3,21 +3,20 @@ use Prim.Native.Nat.{ℕ, zero, suc, _+_, _-_, _^_, _≤_, _<_}
 use native.Mathlib.Omega.{arith}
 use native.Mathlib.Decide.{ℕ-discrete}
 use mathlib.Core.Path.{_≡_, refl, sym, ap, _∙_}
-use mathlib.Core.Bool.{Bool, true, false, cond}
+use mathlib.Core.Bool.{true, false, cond}
 use mathlib.Core.List.{List, [], _∷_, _++_, append-nil}
-use lib.Dec.{eqb, leb}
+use lib.Dec.{leb}
 use lib.ListN.{length, length-append}
-use borrow.Author.Tests.{ne-eqb, ltb-true, leb-true, eqb-true}
+use borrow.Author.Tests.{ne-eqb, ltb-true, leb-true}
 use Rattle.octets.specs.Cases.{split, taken}
 use Rattle.octets.specs.Octets.{Octets, octetAt, octets-append, octets-left, octets-right, no-octets}
 use Rattle.answers.specs.declared.Walk.{Walk}
-use Rattle.answers.specs.declared.Walk.the-variants.{Ends as WalkEnds, Broken as WalkBroken}
-use Rattle.answers.specs.Walk.{endsAt}
+use Rattle.answers.specs.declared.Walk.the-variants.{Ends as WalkEnds}
 use Rattle.whole.specs.Number.{encodeNumber}
 use Rattle.whole.specs.Laws.{number-octets}
 use Rattle.text.specs.Narrow.{NoZero}
 use Rattle.text.specs.Utf8.{textOf}
-use Rattle.text.specs.Text.{encodeText, Chars, Text, text-sound}
+use Rattle.text.specs.Text.{encodeText, Chars, text-sound}
 use Rattle.value.specs.Types.{formIn, numberOf, formAt, formOf}
 use Rattle.value.specs.Encode.{aNumber, aTruth, aNarrow, aText}
 use Rattle.value.specs.Form.{IsValue}
@@ -29,8 +28,9 @@ use Rattle.sheet.specs.Reading.{valueFrom, valuesFrom, rowsFrom}
 use Rattle.sheet.specs.Back.{Spells, plainly, inQuotes}
 use Rattle.sheet.specs.Values.{by-type, isString, narrow-string, freeSlot}
 use Rattle.sheet.specs.One.{freeSlots, Exported, SoundChoice}
-use Rattle.scanning.specs.Steps.{spells, filled, takes, holds}
+use Rattle.scanning.specs.Steps.{spells, filled, takes, holds, string-zero}
 use Rattle.scanning.specs.Scan.{fits}
+use Rattle.scanning.specs.Inner.{ends-is}
 use Rattle.scanning.specs.Sheets.{IsLine, IsText, GoodLine, GoodText}
 
 is-number : (n : ℕ) → n < 2 ^ 32 → IsValue (formOf numbers) (encodeNumber n)
@@ -51,25 +51,14 @@ is-text ns c h v e = record { item = aText ns; kind = refl; valid = (c, h); form
 
 -- ---- what may stand there
 
-zero-not : (code fill : ℕ) → isString code ≡ true → takes code fill 0 ≡ true → ⊥
-unfolding takes spells isString
-zero-not code fill s q = go (eqb fill 2) (eqb code numbers) (eqb code truths) s q
-  where
-    go : (a b c : Bool) → cond b false (cond c false true) ≡ true
-        → cond a false (cond b false (cond c false false)) ≡ true → ⊥
-    go true b c s q = unlike q
-    go false true c s q = unlike q
-    go false false true s q = unlike q
-    go false false false s q = unlike q
-
-string-zero : (code fill : ℕ) (t : List ℕ) → isString code ≡ true → holds code fill t ≡ true → NoZero t
+string-full : (code fill : ℕ) (t : List ℕ) → isString code ≡ true → holds code fill t ≡ true → NoZero t
 unfolding holds
-string-zero code fill [] s h = tt
-string-zero code fill (x ∷ t) s h =
+string-full code fill [] s h = tt
+string-full code fill (x ∷ t) s h =
     taken (takes code fill x) _ _ _ h
     (λ a b. (
-      (λ z. zero-not code fill s (sym (ap (takes code fill) z) ∙ a)),
-      string-zero code (filled code fill x) t s b,
+      (λ z. unlike (sym (string-zero code fill s) ∙ sym (ap (takes code fill) z) ∙ a)),
+      string-full code (filled code fill x) t s b,
     ))
     (λ a b. unlike b)
 
@@ -89,11 +78,7 @@ number-small (x ∷ t) h l = ltb-true (numberIn (x ∷ t)) 4294967296 h
 text-ends : (t : List ℕ) → fits texts t ≡ true → 1 ≤ length t → textOf (t ++ (0 ∷ [])) ≡ WalkEnds (length t + 1)
 unfolding fits
 text-ends [] h l = absurd (omega arith)
-text-ends (x ∷ t) h l = go (textOf ((x ∷ t) ++ (0 ∷ []))) h
-  where
-    go : (r : Walk) → endsAt r (length (x ∷ t) + 1) ≡ true → r ≡ WalkEnds (length (x ∷ t) + 1)
-    go (WalkEnds w) e = ap WalkEnds (eqb-true w (length (x ∷ t) + 1) e)
-    go (WalkBroken p) e = unlike e
+text-ends (x ∷ t) h l = ends-is (textOf ((x ∷ t) ++ (0 ∷ []))) (length (x ∷ t) + 1) h
 
 text-is : (t : List ℕ) → fits texts t ≡ true → 1 ≤ length t → IsValue (formOf texts) (t ++ (0 ∷ []))
 text-is t h l =
@@ -120,7 +105,7 @@ some-sound code t h o k f l =
     (λ p. let n = number-small t (rw p at f) l in rw p (is-number (numberIn t) n, number-octets (numberIn t) n))
     (λ p. let n = truth-small t (rw p at k) l in
     rw p (is-truth (octetAt t 0 - 48) n, octets-one (octetAt t 0 - 48) (omega arith)))
-    (λ p. rw p (is-narrow t (string-zero narrows 0 t narrow-string (rw p at k)) l, ended))
+    (λ p. rw p (is-narrow t (string-full narrows 0 t narrow-string (rw p at k)) l, ended))
     (λ p. rw p (text-is t (rw p at f) l, ended)))
   where
     ended : Octets (t ++ (0 ∷ []))

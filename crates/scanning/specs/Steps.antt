@@ -1,11 +1,13 @@
 -- How a field is scanned, octet by octet (request 106): where it ends, or the first octet that no field could have
 -- there. Assumes nothing.
-use Prim.Native.Nat.{ℕ, _+_}
-use mathlib.Core.Path.{_≡_, refl}
+use Prim.Native.Nat.{ℕ, _+_, _≤_}
+use native.Mathlib.Omega.{arith}
+use mathlib.Core.Path.{_≡_, refl, sym}
 use mathlib.Core.Bool.{Bool, true, false, cond}
 use mathlib.Core.List.{List, [], _∷_}
 use lib.Dec.{eqb, leb}
-use borrow.Author.Tests.{ne-eqb}
+use borrow.Author.Tests.{ne-eqb, eqb-true, leb-true}
+use Rattle.octets.specs.Cases.{taken}
 use Rattle.answers.specs.declared.Walk.{Walk}
 use Rattle.answers.specs.declared.Walk.the-variants.{Ends as WalkEnds, Broken as WalkBroken}
 use Rattle.entry.specs.Record.{unlike}
@@ -86,3 +88,37 @@ module _ (code fill x : ℕ) (s : isString code ≡ true) where
       go true b e = unlike e
       go false true e = unlike e
       go false false e = refl
+
+pub string-zero : (code fill : ℕ) → isString code ≡ true → takes code fill 0 ≡ false
+unfolding takes spells isString
+string-zero code fill s = go (eqb fill 2) (eqb code numbers) (eqb code truths) s
+  where
+    go : (a b c : Bool) → cond b false (cond c false true) ≡ true
+        → cond a false (cond b false (cond c false false)) ≡ false
+    go true b c q = refl
+    go false true c q = refl
+    go false false true q = refl
+    go false false false q = refl
+
+-- ---- numbers and truths
+
+-- a type that is no string is one of these
+pub two-types : {X : Type 0} (code : ℕ) → isString code ≡ false → (code ≡ numbers → X) → (code ≡ truths → X) → X
+unfolding isString
+two-types code s f g =
+    taken (eqb code numbers) _ _ _ s (λ p q. f (eqb-true code numbers p))
+    (λ p q. taken (eqb code truths) _ _ _ q (λ p q. g (eqb-true code truths p)) (λ p q. unlike (sym q)))
+
+far-plain : (x : ℕ) → 48 ≤ x → isMark x ≡ false
+unfolding isMark
+far-plain x h =
+    rw (ne-eqb x 44 (omega arith), ne-eqb x 34 (omega arith), ne-eqb x 13 (omega arith), ne-eqb x 10 (omega arith))
+
+-- a digit is no mark
+pub digit-plain : (code x : ℕ) → isString code ≡ false → spells code x ≡ true → isMark x ≡ false
+unfolding spells
+digit-plain code x s h =
+    two-types code s (λ p. far-plain x (low 57 (rw p at h))) (λ p. far-plain x (low 49 (rw p at h)))
+  where
+    low : (l : ℕ) → cond (leb 48 x) (leb x l) false ≡ true → 48 ≤ x
+    low l e = taken (leb 48 x) _ _ _ e (λ p q. leb-true 48 x p) (λ p q. unlike q)

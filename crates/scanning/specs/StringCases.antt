@@ -1,17 +1,17 @@
 -- The ways of the code that scans strings, on plain values.
 use Prim.Native.Nat.{ℕ, _+_, _≤_, _<_}
 use native.Mathlib.Omega.{arith}
-use mathlib.Core.Path.{_≡_, refl, sym, ap, _∙_}
+use mathlib.Core.Path.{_≡_, _∙_}
 use mathlib.Core.Bool.{Bool, true, false, cond}
 use mathlib.Core.List.{List, [], _∷_}
 use lib.Dec.{eqb}
 use lib.ListN.{length, drop, getD, drop-of-length-le}
 use borrow.Author.Tests.{eq-eqb, ne-eqb}
-use Rattle.octets.specs.Octets.{octetAt, drop-next}
+use Rattle.octets.specs.Octets.{drop-next}
 use Rattle.answers.specs.declared.Walk.{Walk}
 use Rattle.answers.specs.declared.Walk.the-variants.{Ends as WalkEnds, Broken as WalkBroken}
-use Rattle.sheet.specs.Field.{quote, isMark}
-use Rattle.scanning.specs.Strings.{isPlain, plainFrom, quotedFrom, stringFrom}
+use Rattle.sheet.specs.Field.{isMark}
+use Rattle.scanning.specs.Passing.{isPlain, passFrom, quotedFrom, stringFrom}
 
 module _ (x : ℕ) where
   pub plain-far : 44 < x → true ≡ isPlain x
@@ -51,27 +51,28 @@ module _ (x : ℕ) where
 
 pub ruleset plainCases = (plain-far, plain-comma, plain-quote, plain-cr, plain-lf, plain-zero, plain-other)
 
--- ---- outside quotes
+-- ---- octets that are passed
 
-module _ (e : ℕ) (text : List ℕ) (at i : ℕ) (inv : plainFrom e i (drop i text) ≡ plainFrom e at (drop at text)) where
-  module _ (h : i < length text) (p : Bool) (q : p ≡ isPlain (getD text i 0)) where
-    turn : cond p (plainFrom e (i + 1) (drop (i + 1) text))
+module _ (plain : ℕ → Bool) (e : ℕ) (text : List ℕ) (at i : ℕ)
+    (inv : passFrom plain e i (drop i text) ≡ passFrom plain e at (drop at text)) where
+  module _ (h : i < length text) (p : Bool) (q : p ≡ plain (getD text i 0)) where
+    turn : cond p (passFrom plain e (i + 1) (drop (i + 1) text))
         (cond (eqb (getD text i 0) e) (WalkEnds i) (WalkBroken i))
-        ≡ plainFrom e at (drop at text)
-    unfolding plainFrom
+        ≡ passFrom plain e at (drop at text)
+    unfolding passFrom
     turn = rw (drop-next text i h, ← q) at inv
 
-    pub walk-on : p ≡ true → plainFrom e (i + 1) (drop (i + 1) text) ≡ plainFrom e at (drop at text)
+    pub walk-on : p ≡ true → passFrom plain e (i + 1) (drop (i + 1) text) ≡ passFrom plain e at (drop at text)
     walk-on z = rw z at turn
 
-    pub walk-ends : p ≡ false → getD text i 0 ≡ e → WalkEnds i ≡ plainFrom e at (drop at text)
+    pub walk-ends : p ≡ false → getD text i 0 ≡ e → WalkEnds i ≡ passFrom plain e at (drop at text)
     walk-ends z y = rw (z, eq-eqb (getD text i 0) e y) at turn
 
-    pub walk-broken : p ≡ false → (getD text i 0 ≡ e → ⊥) → WalkBroken i ≡ plainFrom e at (drop at text)
+    pub walk-broken : p ≡ false → (getD text i 0 ≡ e → ⊥) → WalkBroken i ≡ passFrom plain e at (drop at text)
     walk-broken z y = rw (z, ne-eqb (getD text i 0) e y) at turn
 
-  pub walk-over : length text ≤ i → WalkBroken i ≡ plainFrom e at (drop at text)
-  unfolding plainFrom
+  pub walk-over : length text ≤ i → WalkBroken i ≡ passFrom plain e at (drop at text)
+  unfolding passFrom
   walk-over h = rw (drop-of-length-le text {i = i} h) at inv
 
 pub ruleset walkCases = (walk-on, walk-ends, walk-broken, walk-over)
@@ -142,7 +143,7 @@ module _ (e : ℕ) (text : List ℕ) (at : ℕ) where
     unfolding stringFrom
     string-quoted z q = rw (drop-next text at h, z) q
 
-    pub string-plain : (getD text at 0 ≡ 34 → ⊥) → r ≡ plainFrom e at (drop at text)
+    pub string-plain : (getD text at 0 ≡ 34 → ⊥) → r ≡ passFrom isPlain e at (drop at text)
         → r ≡ stringFrom e at (drop at text)
     unfolding stringFrom
     string-plain z q = q ∙ rw (drop-next text at h, ne-eqb (getD text at 0) 34 z)

@@ -13,7 +13,7 @@ use Rattle.answers.specs.declared.Walk.the-variants.{Ends as WalkEnds}
 use Rattle.text.specs.Narrow.{NoZero}
 use Rattle.text.specs.Utf8.{textOf}
 use Rattle.text.specs.Text.{encodeChars, chars-noZero}
-use Rattle.value.specs.Types.{number, truth, narrow, text, formIn, numberOf, formAt, formOf}
+use Rattle.value.specs.Types.{narrow, text, formIn, numberOf, formAt, formOf}
 use Rattle.value.specs.Encode.{Item, aNumber, aTruth, aNarrow, aText, aBinary, kindOf, Valid, encodeItem}
 use Rattle.value.specs.Value.{valueOf, elementOf}
 use Rattle.value.specs.Form.{IsValue, value-back}

@@ -18,10 +18,13 @@ fn digit_of(x: u8) -> u64
     (x - 48) as u64
 }
 
-// Whether the number that digits say is at most 4,294,967,295.
+// Whether the number that digits say is at most 4,294,967,295. Eight octets, whichever they are, say less.
 fn is_small(s: &[u8]) -> bool
     ensures { λ r. ⌜ r ≡ ltb (numberIn (now (s .entry))) 4294967296 ⌝ }
 {
+    if s.len() < 9 {
+        return true;
+    }
     let mut a: u64 = 0;
     let mut i = 0;
     while i < s.len() {

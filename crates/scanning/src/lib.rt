@@ -6,7 +6,8 @@ mod strings;
 mod tags;
 
 use answers::Walk;
-use digits::walk_digits;
+use digits::walk_number;
+use digits::walk_steps;
 use fits::fits_field;
 use strings::walk_string;
 use tags::next_of;
@@ -15,7 +16,6 @@ ghost use mathlib.Core.Bool.{cond};
 ghost use Prim.Native.Nat.{_+_, _^_, _≤_, _<_};
 ghost use lib.Dec.{ltb};
 ghost use lib.ListN.{length, drop};
-ghost use Rattle.sheet.specs.Values.{isString};
 ghost use Rattle.scanning.specs.declared.Stage.the-variants.{Outside};
 ghost use Rattle.scanning.specs.Steps.{fieldFrom};
 ghost use Rattle.scanning.specs.Scan.{fits, held, scanIn};
@@ -85,18 +85,6 @@ pub struct FirstLine {
     pub walk: Walk,
 }
 
-fn is_string(code: u32) -> bool
-    ensures { λ r. ⌜ r ≡ isString code ⌝ }
-{
-    if code == NUMBERS {
-        return false;
-    }
-    if code == TRUTHS {
-        return false;
-    }
-    true
-}
-
 // What ends field j of n.
 fn end_of(j: usize, n: usize) -> u8
     requires { ⌜ j < n ⌝ }
@@ -113,10 +101,13 @@ fn walk_field(text: &[u8], at: usize, code: u32, end: u8) -> Walk
     requires { ⌜ (at ≤ length (now text)) × AnEnd end ⌝ }
     ensures { λ r. ⌜ r ≡ fieldFrom code end (Outside 0) at (drop at (now (text .entry))) ⌝ }
 {
-    if is_string(code) {
-        return walk_string(text, at, end);
+    if code == NUMBERS {
+        return walk_number(text, at, end);
     }
-    walk_digits(text, at, code, end)
+    if code == TRUTHS {
+        return walk_steps(text, at, code, end);
+    }
+    walk_string(text, at, end)
 }
 
 // The same, and whether what the field holds is a value; field `column` of its line.

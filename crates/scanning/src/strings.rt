@@ -8,7 +8,7 @@ ghost use mathlib.Core.Path.{_≡_};
 ghost use mathlib.Core.Bool.{false};
 ghost use Prim.Native.Nat.{_≤_};
 ghost use lib.ListN.{length, drop};
-ghost use Rattle.scanning.specs.Strings.{isPlain, plainFrom, quotedFrom, stringFrom};
+ghost use Rattle.scanning.specs.Passing.{isPlain, passFrom, quotedFrom, stringFrom};
 
 // Whether x is no mark and no zero.
 fn is_plain(x: u8) -> bool
@@ -38,7 +38,7 @@ fn is_plain(x: u8) -> bool
 // Outside quotes.
 fn walk_plain(text: &[u8], at: usize, end: u8) -> Walk
     requires { ⌜ at ≤ length (now text) ⌝ }
-    ensures { λ r. ⌜ r ≡ plainFrom end at (drop at (now (text .entry))) ⌝ }
+    ensures { λ r. ⌜ r ≡ passFrom isPlain end at (drop at (now (text .entry))) ⌝ }
 {
     let mut i = at;
     while i < text.len() {

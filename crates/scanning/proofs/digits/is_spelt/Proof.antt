@@ -4,6 +4,10 @@ use Rattle.scanning.proofs.digits.is_spelt.Statement.{statement}
 use Rattle.scanning.proofs.digits.is_spelt.Tie as tie
 use Rattle.scanning.proofs.digits.is_spelt.Reads as reads
 use Rattle.scanning.proofs.digits.is_spelt.Lts as lts
+use Rattle.scanning.proofs.digits.is_digit.Reads as is-digit-reads
+
+is-digit-requires : tie.Need-is-digit-requires
+is-digit-requires c κs = search (needs, speltCases)
 
 returns : tie.Need-returns
 returns c = search (needs, speltCases)
@@ -15,4 +19,4 @@ returns-3 : tie.Need-returns-3
 returns-3 c = search (needs, speltCases)
 
 pub is-spelt-spec : {M : Type 1} → statement M
-is-spelt-spec = tie.close (tie.spec returns returns-2 returns-3)
+is-spelt-spec = tie.close (tie.spec is-digit-requires returns returns-2 returns-3)

@@ -16,6 +16,9 @@ Inv-loop s a₀ i₀ a i = (i ≤ length s) × (a ≤ 4294967295) × (numberFrom
 abbrev μ-loop : tie.MeasureT-loop
 μ-loop s a₀ i₀ a i = length s - i
 
+returns : tie.Need-returns Inv-loop μ-loop
+returns c = search (needs, smallCases)
+
 loop-holds : tie.Need-loop-holds Inv-loop μ-loop
 loop-holds c = search (needs, smallCases)
 
@@ -31,8 +34,8 @@ digit-of-requires c κs = search (needs, smallCases)
 add-a : tie.Need-add-a Inv-loop μ-loop
 add-a c = search (needs, smallCases)
 
-returns : tie.Need-returns Inv-loop μ-loop
-returns c = search (needs, smallCases)
+returns-2 : tie.Need-returns-2 Inv-loop μ-loop
+returns-2 c = search (needs, smallCases)
 
 add-i : tie.Need-add-i Inv-loop μ-loop
 add-i c = search (needs, smallCases)
@@ -43,8 +46,8 @@ loop-less c = search (needs, smallCases)
 loop-again : tie.Need-loop-again Inv-loop μ-loop
 loop-again c = search (needs, smallCases)
 
-returns-2 : tie.Need-returns-2 Inv-loop μ-loop
-returns-2 c = search (needs, smallCases)
+returns-3 : tie.Need-returns-3 Inv-loop μ-loop
+returns-3 c = search (needs, smallCases)
 
 pub is-small-spec : {M : Type 1} → statement M
 is-small-spec =
@@ -52,13 +55,14 @@ is-small-spec =
     (tie.spec
     Inv-loop
     μ-loop
+    returns
     loop-holds
     mul-a
     shared-slice-read-digit-of
     digit-of-requires
     add-a
-    returns
+    returns-2
     add-i
     loop-less
     loop-again
-    returns-2)
+    returns-3)

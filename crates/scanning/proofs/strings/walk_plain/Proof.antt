@@ -1,7 +1,7 @@
 use mathlib.Core.Path.{_≡_}
 use Prim.Native.Nat.{_-_, _≤_}
 use lib.ListN.{length, drop}
-use Rattle.scanning.specs.Strings.{plainFrom}
+use Rattle.scanning.specs.Passing.{isPlain, passFrom}
 use Rattle.scanning.specs.StringCases.{walkCases}
 use borrow.Author.Needs.{needs}
 use Rattle.scanning.proofs.strings.walk_plain.Statement.{statement}
@@ -11,7 +11,8 @@ use Rattle.scanning.proofs.strings.walk_plain.Lts as lts
 use Rattle.scanning.proofs.strings.is_plain.Reads as is-plain-reads
 
 abbrev Inv-loop : tie.InvT-loop
-Inv-loop text at end i₀ i = (i ≤ length text) × (plainFrom end i (drop i text) ≡ plainFrom end at (drop at text))
+Inv-loop text at end i₀ i =
+    (i ≤ length text) × (passFrom isPlain end i (drop i text) ≡ passFrom isPlain end at (drop at text))
 
 abbrev μ-loop : tie.MeasureT-loop
 μ-loop text at end i₀ i = length text - i

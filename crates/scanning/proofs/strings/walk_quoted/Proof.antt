@@ -2,7 +2,7 @@ use mathlib.Core.Path.{_≡_}
 use mathlib.Core.Bool.{false}
 use Prim.Native.Nat.{_-_, _≤_}
 use lib.ListN.{length, drop}
-use Rattle.scanning.specs.Strings.{quotedFrom}
+use Rattle.scanning.specs.Passing.{quotedFrom}
 use Rattle.scanning.specs.StringCases.{quotedCases}
 use borrow.Author.Needs.{needs}
 use Rattle.scanning.proofs.strings.walk_quoted.Statement.{statement}

@@ -5,10 +5,10 @@ use Rattle.scanning.specs.declared.Stage.the-variants.{Outside}
 use Rattle.scanning.specs.Steps.{fieldFrom}
 use Rattle.scanning.specs.DigitCases.{digitsCases}
 use borrow.Author.Needs.{needs}
-use Rattle.scanning.proofs.digits.walk_digits.Statement.{statement}
-use Rattle.scanning.proofs.digits.walk_digits.Tie as tie
-use Rattle.scanning.proofs.digits.walk_digits.Reads as reads
-use Rattle.scanning.proofs.digits.walk_digits.Lts as lts
+use Rattle.scanning.proofs.digits.walk_steps.Statement.{statement}
+use Rattle.scanning.proofs.digits.walk_steps.Tie as tie
+use Rattle.scanning.proofs.digits.walk_steps.Reads as reads
+use Rattle.scanning.proofs.digits.walk_steps.Lts as lts
 use Rattle.scanning.proofs.digits.step_on.Reads as step-on-reads
 
 abbrev Inv-loop : tie.InvT-loop
@@ -54,8 +54,8 @@ loop-again c = search (needs, digitsCases)
 returns-3 : tie.Need-returns-3 Inv-loop μ-loop
 returns-3 c = search (needs, digitsCases)
 
-pub walk-digits-spec : {M : Type 1} → statement M
-walk-digits-spec =
+pub walk-steps-spec : {M : Type 1} → statement M
+walk-steps-spec =
     tie.close
     (tie.spec
     Inv-loop
