@@ -24,7 +24,7 @@ class Import:
         self.text, self.flags, self.answer = text, list(flags), answer
         self.heads, self.header_flags = list(header[0]), list(header[1])
         self.record = record
-        self.room = (len(answer[1]) if answer[0] == 'made' else 60) if room is None else room
+        self.room = (len(answer[1]) if answer[0] == 'made' else 44) if room is None else room
 
     def given(self):
         """The arguments but the room."""

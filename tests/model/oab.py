@@ -862,7 +862,7 @@ def value_of(tag, content, place):
     if content == b'':
         return None
     if type_of(tag) == NUMBER:
-        if int(content) > 0xFFFFFFFF:
+        if len(content) > 10 or int(content) > 0xFFFFFFFF:
             raise Refusal(20, place)
         return int(content)
     if type_of(tag) == YES_OR_NO:
