@@ -504,7 +504,7 @@ def some_damage(rng, given):
     text, flags, heads, header_flags, record = given
     what = rng.randrange(10)
     if what < 6:
-        text = damaged(rng, text, 0 if what == 0 else text.index(b'\r\n') + 2)
+        text = damaged(rng, text, 0 if what == 0 else len(text.partition(b'\r\n')[0]) + 2)
     elif what == 6:
         flags = flags[1:] if rng.random() < 0.5 else flags + [0]
     elif what == 7:
