@@ -390,7 +390,7 @@ def every_text(tags, alphabet, most):
 
 def check_imports_all():
     """Every text of a few letters behind the first line: 20 at the first octet with which no sheet begins, else at the
-    end, by the set of all beginnings of all short sheets. A line needs no more than a quote, commas and CR LF to end."""
+    end, by the set of all beginnings of all short sheets. A quote, the commas and CR LF are enough to end any line."""
     for tags, alphabet, most in SMALL_ALPHABETS:
         texts = every_text(tags, alphabet, most + len(tags) + 2)
         begins = {text[:n] for text in texts for n in range(len(text) + 1)}

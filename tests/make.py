@@ -802,9 +802,11 @@ class SheetStream(Stream):
       2 4 room, tags of 4: the sheet, written    the same, a blank, and the hex of all of them
         in as many octets A5
       3 4 each: room, number of header tags, of header flags, of flags, octets of the header
-        record; then all of those in this order, 4 octets a tag or flags; then the text: the
-        book from it, written in as many octets A5       as 2, with the book's length
+        record; then all of those in this order, 4 octets a tag or flags, at most 192 of each;
+        then the text: the book from it, written in as many octets A5    as 2, with the book's length
     """
+
+    most_given = 192
 
     def __init__(self):
         super().__init__('sheet_cases')
@@ -840,7 +842,7 @@ class SheetStream(Stream):
 
     def back(self, text, flags, heads, header_flags, record, room):
         """A book from a sheet's text."""
-        assert max(len(flags), len(heads), len(header_flags)) <= MOST_GIVEN
+        assert max(len(flags), len(heads), len(header_flags)) <= self.most_given
         answer = oab.from_sheet(text, flags, heads, header_flags, record, room)
         made = answer[1] if answer[0] == 'made' else b''
         words = ('made', len(made)) if made else answer
@@ -849,9 +851,6 @@ class SheetStream(Stream):
         payload += b''.join(oab.four(n) for n in heads + header_flags + flags) + record + text
         self.add(payload, ' '.join(str(word) for word in words) + ' ' + hex_of(made + b'\xA5' * (room - len(made))))
         return answer
-
-
-MOST_GIVEN = 192          # tags or flags of a case
 
 
 def sheet_rooms(stream, book, tags, rooms):
