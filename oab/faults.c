@@ -83,6 +83,8 @@ static const char *first_line_words(const struct spot *p, const struct octets *t
 {
     uint8_t octet = p->at < text->length ? text->at[p->at] : 0;
     if (p->at == text->length) return "the text ends inside the first line";
+    if (p->at == 0 && text->length >= 3 && memcmp(text->at, "\xEF\xBB\xBF", 3) == 0)
+        return "a sheet has no byte order mark in front";
     if (p->where == BEHIND_CR || octet == '\n') return "a line ends in CR LF";
     if (octet == ',' && p->field + 1 == WT_MOST_CHOSEN) return "a sheet has at most 16 columns";
     if (octet >= 'a' && octet <= 'f' && p->at - p->start < 8u + (p->where == IN_QUOTES))

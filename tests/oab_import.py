@@ -163,6 +163,7 @@ FAULTS = (
     (b'3001001f\r\n', 'line 1, column 8: the hex digits of a tag are upper-case'),
     (b'"3001001f"\r\n', 'line 1, column 9: the hex digits of a tag are upper-case'),
     (b'3001001Fa\r\n', 'line 1, column 9: the first line has 1 to 16 tags of eight hex digits, parted by commas'),
+    (b'\xEF\xBB\xBF3001001F\r\n', 'line 1, column 1: a sheet has no byte order mark in front'),
     (b'SmtpAddress\r\n', 'line 1, column 1: the first line has 1 to 16 tags of eight hex digits, parted by commas'),
     (b'3001001F\na\n', 'line 1, column 9: a line ends in CR LF'),
     (b'3001001F\ra', 'line 1, column 10: a line ends in CR LF'),

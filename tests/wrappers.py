@@ -115,8 +115,9 @@ int main(void)
     printf("%u ", wt_why((const uint8_t *)"", 0, WT_HEADER, 0, &r));
     printf("%u ", wt_sheet_length((const uint8_t *)"", 0, &tag, 1, &made));
     printf("%u %u ", wt_sheet((const uint8_t *)"", 0, &tag, 1, text, 1, &made), text[0]);
-    printf("%u", wt_from_sheet((const uint8_t *)"", 0, &tag, 0, &tag, 0, &tag, 0, text, 0, text, 1, &made));
-    printf(" %u", text[0]);
+    printf("%u ", wt_from_sheet((const uint8_t *)"", 0, &tag, 0, &tag, 0, &tag, 0, (const uint8_t *)"", 0, text, 1,
+        &made));
+    printf("%u", text[0]);
     return 0;
 }
 '''
