@@ -1,18 +1,21 @@
-/* Books of each shape: good, with one octet changed, cut short, exported, corrected at random, and written again. */
+/* Books of each shape: good, with one octet changed, cut short, exported, made from their sheets, corrected at random,
+   and written again. */
 #include "agree.h"
 #include "../include/windtrellis.h"
 #include "books.h"
 #include "corrector.h"
 #include "exporter.h"
+#include "importer.h"
 #include "indexer.h"
 #include "replay.h"
 #include <stdio.h>
 #include <stdlib.h>
 #include <string.h>
 
-enum { NUMBERS_MET = 20 };
-static unsigned judged, mended, indexed, sheets, differ;
+enum { NUMBERS_MET = 21 };
+static unsigned judged, mended, indexed, sheets, imports, differ;
 static unsigned met[NUMBERS_MET], answers[NUMBERS_MET], looked[NUMBERS_MET], exported[NUMBERS_MET];
+static unsigned imported[NUMBERS_MET];
 /* the index of the good book and an old one of it, for all that is made of the book */
 enum { NEW, OLD, KINDS };
 static uint8_t kept[KINDS][OFFSET + WIDTH * 65535];
@@ -90,6 +93,38 @@ static void compare_sheets(const struct book *b) {
     sheets++;
     exported[number]++;
     if (number != r.number || length.place != (number ? r.place : 0) || length.length != n || memcmp(made, plain, room))
+        differ++;
+}
+
+/* the text with one octet or two changed, at times cut; flags at times one too few, or keys */
+static size_t spoil(uint8_t *text, size_t n, uint32_t *flags, size_t *count) {
+    static const uint8_t letters[] = "\"\",,\r\n0179AFa \0\x80\xC3\xFF";
+    for (uint32_t k = chance(3); 0 < k; k--) text[chance((uint32_t)n)] = letters[chance(sizeof letters - 1)];
+    if (chance(20) == 0) --*count;
+    for (size_t i = 0; i < *count; i++) flags[i] = chance(30) == 0 ? 2 : 0;
+    return chance(10) == 0 ? n - chance((uint32_t)n) : n;
+}
+
+/* a book from a sheet of the good book, spoilt or not, and every octet of a room that is enough or a little short */
+static void compare_imports(const struct book *b) {
+    static uint8_t text[1 << 17], made[1 << 16], plain[sizeof made];
+    static const uint8_t nothing[4] = {4, 0, 0, 0};
+    uint32_t tags[MOST_CHOSEN + 1], flags[MOST_CHOSEN + 1], head = 0x6800001F, head_flags = 0, number;
+    size_t count = some_tags(tags), n, made_length, room = chance(8) ? sizeof made : chance(20000), given;
+    wt_length length;
+    if (plain_sheet(b->octets, b->length, tags, count, text, sizeof text, &n).number) return;
+    n = spoil(text, n, flags, &count);
+    given = chance(30) == 0;
+    struct front f = {flags, &head, &head_flags, count, given, given, nothing, sizeof nothing};
+    memset(made, 0xA5, room);
+    memset(plain, 0xA5, room);
+    struct refusal r = plain_from_sheet(text, n, &f, plain, room, &made_length);
+    number = wt_from_sheet(text, n, flags, count, &head, given, &head_flags, given, nothing, sizeof nothing, made, room,
+        &length);
+    imports++;
+    imported[number]++;
+    if (number != r.number || length.place != (number ? r.place : 0) || length.length != made_length ||
+        memcmp(made, plain, room))
         differ++;
 }
 
@@ -229,6 +264,7 @@ int agree(void) {
         keep_tags(&b);
         compare(&b);
         for (int t = 0; t < 300; t++) compare_sheets(&b);
+        for (int t = 0; t < 3000; t++) compare_imports(&b);
         damage(&b);
         cut(&b);
         correct(&b);
@@ -238,6 +274,7 @@ int agree(void) {
     say("books judged and looked up", judged, met);
     say("indexes made, and lookups through that of the good book, new and old", indexed, looked);
     say("sheets made", sheets, exported);
+    say("books made from sheets", imports, imported);
     say("corrections", mended, answers);
     printf("%d books written again; %u differ\n", ALL_SHAPES, differ);
     return differ != 0;

@@ -4,6 +4,7 @@
 #include "books.h"
 #include "corrector.h"
 #include "exported.h"
+#include "imported.h"
 #include "indexed.h"
 #include "replay.h"
 #include <stdio.h>
@@ -273,9 +274,12 @@ static void serials(void) {
 
 int main(int argc, char **argv) {
     if (1 < argc) turns = atoi(argv[1]);
+    const char *only = 2 < argc ? argv[2] : "";
     if (agree()) return 1;
-    exported(turns);
-    if (2 < argc && strcmp(argv[2], "sheets") == 0) return 0;
+    if (strcmp(only, "imports") != 0) exported(turns);
+    if (strcmp(only, "sheets") == 0) return 0;
+    imported(turns);
+    if (strcmp(only, "imports") == 0) return 0;
     serials();
     indexed(turns);
     printf("\nlibrary / plain C with a table-driven serial; walks: judge without the serial, on both sides\n%-24s %7s %8s", "shape", "MiB", "records");

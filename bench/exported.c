@@ -27,26 +27,9 @@ static double now(void) {
     return (double)t.tv_sec + 1e-9 * (double)t.tv_nsec;
 }
 
-static int can_be_exported(uint32_t tag) {
-    uint32_t type = tag & 0xFFFF;
-    return type == 0x0003 || type == 0x000B || type == 0x001E || type == 0x001F;
-}
-
-static void choose(struct subject *s) {
-    const uint8_t *o = s->book.octets;
-    size_t h = word32(o + 16), a = word32(o + 20 + 8 * h), fit = 0;
-    uint32_t tags[MOST_COLUMNS];
-    for (size_t i = 0; i < a; i++) {
-        uint32_t tag = word32(o + 24 + 8 * (h + i));
-        if (can_be_exported(tag)) tags[fit++] = tag;
-    }
-    s->count = fit < MOST_CHOSEN ? fit : MOST_CHOSEN;
-    for (size_t i = 0; i < s->count; i++) s->tags[i] = tags[i * (fit / s->count)];
-}
-
 static struct subject subject_of(enum shape shape, size_t length) {
     struct subject s = {make_book(shape, length), {0}, 0, 0, {0, 0}};
-    choose(&s);
+    s.count = spread_tags(s.book.octets, s.tags);
     if (s.count) plain_sheet_length(s.book.octets, s.book.length, s.tags, s.count, &s.length);
     for (int side = 0; side < SIDES && s.count; side++) s.text[side] = calloc(s.length, 1);
     return s;

@@ -18,6 +18,18 @@ static int exported(uint32_t tag) {
     return type == 0x0003 || type == 0x000B || type == 0x001E || type == 0x001F;
 }
 
+size_t spread_tags(const uint8_t *book, uint32_t *tags) {
+    size_t h = word32(book + 16), a = word32(book + 20 + 8 * h), fit = 0, count;
+    uint32_t every[MOST_COLUMNS];
+    for (size_t i = 0; i < a; i++) {
+        uint32_t tag = word32(book + 24 + 8 * (h + i));
+        if (exported(tag)) every[fit++] = tag;
+    }
+    count = fit < MOST_CHOSEN ? fit : MOST_CHOSEN;
+    for (size_t i = 0; i < count; i++) tags[i] = every[i * (fit / count)];
+    return count;
+}
+
 /* 15 for any tag before every 18 */
 static struct refusal choose(const struct columns *t, const uint32_t *tags, size_t count, struct choice *c) {
     for (size_t i = 0; i < count; i++)

@@ -1,6 +1,6 @@
-/* Windtrellis: offline address books (OAB version 4 full details files), judged, looked up, exported, written and
- * corrected. Every call below is proved to meet its contract (crates/face_reading, face_reason, face_index, face_sheet,
- * face_correcting, face_writing); docs/CONTRACTS.md says each in a sentence.
+/* Windtrellis: offline address books (OAB version 4 full details files), judged, looked up, exported, made from a
+ * sheet, written and corrected. Every call below is proved to meet its contract (crates/face_reading, face_reason,
+ * face_index, face_sheet, face_correcting, face_writing); docs/CONTRACTS.md says each in a sentence.
  *
  * Answers. A call takes any octets and any numbers, ends, and answers WT_DONE or the number of its refusal. What there
  * is to say stands in the one small struct that is lent for it, whose first number is the refusal's place, 0 where the
@@ -35,7 +35,7 @@ extern "C" {
 
 /* 10,000 for each version, 100 for each change that adds calls, 1 for each other one. wt_version answers that of the
  * library which the program runs with. */
-#define WT_VERSION 10300u
+#define WT_VERSION 10400u
 uint32_t wt_version(void);
 
 /* Answers. */
@@ -60,8 +60,12 @@ enum {
     WT_BREAKS_RULE = 16,   /* the result would break a rule on keys, count or length */
     WT_NO_ROOM = 17,       /* the buffer is too short for the result */
     WT_BREAKS_FORM = 18,   /* an offered value or record breaks its form; in wt_why: the value is present; of a sheet:
-                            * a column that can't be exported, a tag chosen twice, none or over 16 */
-    WT_WRONG_INDEX = 19    /* an index that isn't the book's, or whose entry for the record lies outside it */
+                            * a column that can't be exported, a tag chosen twice, none or over 16; of a book from a
+                            * sheet: a column that can't be exported, a header record that breaks its form */
+    WT_WRONG_INDEX = 19,   /* an index that isn't the book's, or whose entry for the record lies outside it */
+    WT_WRONG_SHEET = 20    /* a text that isn't a sheet; the place is that of the first octet that no sheet could have
+                            * there, or the text's end; of a number that is too large, or text that is no UTF-8, that
+                            * of its field */
 };
 
 /* House limits. */
@@ -173,6 +177,40 @@ uint32_t wt_sheet_length(const uint8_t *book, size_t octets, const uint32_t *tag
  * answers is enough, and what it takes. It may be longer than the book. */
 uint32_t wt_sheet(const uint8_t *book, size_t octets, const uint32_t *tags, size_t tag_count,
     uint8_t *WT_RESTRICT text, size_t room, wt_length *WT_RESTRICT out);
+
+/* ---- a book from a sheet: its address columns are the sheet's, in that order, with the flags that are handed in for
+ * them; its header table and its header record are handed in, too. A sheet that wt_sheet makes of all columns of a book
+ * comes back as that book, octet by octet, where they are given in their order with the book's own flags, header table
+ * and header record, and its unused flag bits are zero.
+ *
+ * The first line has 1 to WT_MOST_CHOSEN tags of eight upper-case hex digits. Each line behind it is a record, with a
+ * field for each tag. Fields are parted by commas, every line ends in CR LF, the last too. A field may stand in quotes
+ * whether it needs them or not, a tag too; text that holds a comma, a quote, CR or LF needs them, and then each quote
+ * inside is doubled. An empty field, in quotes or not, is an absent value. A number is decimal without leading zeros, a
+ * boolean 0 or 1; text holds no zero octet, and in a 001F column is UTF-8.
+ *
+ * Refusals, the first in this order:
+ *   20 for a first line other than this;
+ *   15 where flags and tags differ in number;
+ *   18 where any tag is of another type than 0003, 000B, 001E and 001F;
+ *   20 for the lines behind it, as they are met from left to right: at the first octet that no sheet could have there,
+ *      or at the text's end; a number over 4,294,967,295 and, in a 001F column, what is no UTF-8 are looked for once
+ *      their field has ended, by a comma or CR that may stand there, and give the field's start, its quote where it has
+ *      one;
+ *   those of wt_begin with both tables: 15, then 5, 6 and 7 with the row's number, rows of the sheet counted from 128
+ *      (a tag that stands twice in the first line is such a 7), then 17;
+ *   18 where the header record isn't one good record of its table to its last octet (no key binds there);
+ *   those of the writing calls, one after the other: the header record opened, each of its values given, closed; then
+ *      each line in the same way; then the finish. 16: over WT_MOST_RECORDS lines, a key that is absent, no line, or a
+ *      call whose octets pass WT_MOST_OCTETS; 17: a call whose octets don't fit.
+ * A refusal leaves every octet of the buffer, also where calls before it would have written.
+ *
+ * The book stands in the front of the buffer, and its length comes back; octets behind it stay. Room: 24 + 8 (header
+ * columns + columns) + header_record_octets + text_octets + 6 for each line is enough, and so is WT_MOST_OCTETS. */
+uint32_t wt_from_sheet(const uint8_t *text, size_t text_octets, const uint32_t *flags, size_t flag_count,
+    const uint32_t *header_tags, size_t header_tag_count, const uint32_t *header_flags, size_t header_flag_count,
+    const uint8_t *header_record, size_t header_record_octets, uint8_t *WT_RESTRICT buffer, size_t octets,
+    wt_length *WT_RESTRICT out);
 
 /* ---- correcting: a book of `length` octets stands at the front of a buffer of `octets`. Done: the struct has the new
  * length; octets from the new length up to the old are zero, those behind both stay. Refusals: 15 for a length over the

@@ -6,7 +6,10 @@
 #include <stdio.h>
 
 /* Options, a bit each. */
-enum { OUT = 1, QUIET = 2, DRY = 4, JSON = 8, RAW = 16, EXIT = 32, NAMES = 64, INDEX = 128, TAG = 256, ALIKE = 512 };
+enum {
+    OUT = 1, QUIET = 2, DRY = 4, JSON = 8, RAW = 16, EXIT = 32, NAMES = 64, INDEX = 128, TAG = 256, ALIKE = 512,
+    LIKE = 1024, FLAGS = 2048
+};
 
 struct command {
     const char *name;
@@ -15,6 +18,8 @@ struct command {
     unsigned options;
     const char *out;   /* -o: where the result goes, or null */
     const char *index; /* --index: where the saved index is, or null */
+    const char *like;  /* --like: the book that a header and flags come from, or null */
+    const char *flags; /* --flags: as it was written, or null */
     char **tags;       /* of each -t, as it was written */
     size_t tag_count;
     FILE *to;          /* where lines are printed */
@@ -41,6 +46,7 @@ int run_get(const struct command *c);
 int run_find(const struct command *c);
 int run_why(const struct command *c);
 int run_export(const struct command *c);
+int run_import(const struct command *c);
 int run_index(const struct command *c);
 int run_extract(const struct command *c);
 int run_set(const struct command *c);

@@ -1,5 +1,5 @@
 # Completion of oab's commands, options, records and names of tags for bash.
-_oab_commands="check list columns show get find why export index set clear insert delete extract apply"
+_oab_commands="check list columns show get find why export import index set clear insert delete extract apply"
 _oab_names="
     OfflineAddressBookName OfflineAddressBookDistinguishedName OfflineAddressBookSequence
     OfflineAddressBookContainerGuid AddressBookHierarchicalRootDepartment EmailAddress SmtpAddress DisplayName
@@ -23,7 +23,7 @@ _oab() {
     local word=${COMP_WORDS[COMP_CWORD]} before=${COMP_WORDS[COMP_CWORD - 1]} command='' at=0 i
     for ((i = 1; i < COMP_CWORD; i++)); do
         case ${COMP_WORDS[i]} in
-        -o | -t | --index) ((i++)) ;;
+        -o | -t | --index | --like | --flags) ((i++)) ;;
         -*) ;;
         *) if [ -z "$command" ]; then command=${COMP_WORDS[i]}; else ((at++)); fi ;;
         esac
@@ -36,6 +36,7 @@ _oab() {
     get) options="$all --json --raw -e --index" ;;
     find) options="$all --json --names -i -t" ;;
     export) options="$all -t" ;;
+    import) options="$all -n --like --flags" ;;
     set) options="$all --raw -n" ;;
     clear | insert | delete | apply | index) options="$all -n" ;;
     extract) options=$all ;;
@@ -45,7 +46,7 @@ _oab() {
         local earlier=''
         [[ $word != *,* ]] || earlier=${word%,*},
         mapfile -t COMPREPLY < <(compgen -P "$earlier" -W "$_oab_names" -- "${word##*,}")
-    elif [ "$before" = -o ] || [ "$before" = --index ]; then
+    elif [[ $before =~ ^(-o|--index|--like)$ ]]; then
         compopt -o filenames
         mapfile -t COMPREPLY < <(compgen -f -- "$word")
     elif [[ $word == -* ]]; then

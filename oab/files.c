@@ -16,16 +16,16 @@ void keep_standard_files(void)
     if (fd > 2) close(fd);
 }
 
-/* Up to MOST_READ octets, read to the end: a file that is cut meanwhile is read as far as it goes. Room is taken by the
+/* Up to so many octets, read to the end: a file that is cut meanwhile is read as far as it goes. Room is taken by the
  * file's size, and grows where there is none or more comes. */
-static int read_all(int fd, struct octets *o)
+static int read_all(int fd, struct octets *o, size_t most)
 {
     struct stat is;
     size_t chunk = 1 << 16;
     if (fstat(fd, &is) == 0 && S_ISREG(is.st_mode) && is.st_size > 0)
-        chunk = (size_t)is.st_size < MOST_READ ? (size_t)is.st_size + 1 : MOST_READ;
-    while (o->length < MOST_READ) {
-        size_t want = MOST_READ - o->length < chunk ? MOST_READ - o->length : chunk;
+        chunk = (size_t)is.st_size < most ? (size_t)is.st_size + 1 : most;
+    while (o->length < most) {
+        size_t want = most - o->length < chunk ? most - o->length : chunk;
         ssize_t n;
         if (!grow(o, want)) return 0;
         n = read(fd, o->at + o->length, want);
@@ -40,16 +40,21 @@ static int read_all(int fd, struct octets *o)
     return grow(o, 1);
 }
 
-int read_file(const char *path, struct octets *o)
+int read_up_to(const char *path, struct octets *o, size_t most)
 {
     int fd, result = DONE;
     if (strcmp(path, "-") == 0)
-        return read_all(0, o) ? DONE : fail("standard input", "can't be read: %s", strerror(errno));
+        return read_all(0, o, most) ? DONE : fail("standard input", "can't be read: %s", strerror(errno));
     fd = open(path, O_RDONLY | O_CLOEXEC);
     if (fd < 0) return fail(path, "can't be opened: %s", strerror(errno));
-    if (!read_all(fd, o)) result = fail(path, "can't be read: %s", strerror(errno));
+    if (!read_all(fd, o, most)) result = fail(path, "can't be read: %s", strerror(errno));
     close(fd);
     return result;
+}
+
+int read_file(const char *path, struct octets *o)
+{
+    return read_up_to(path, o, MOST_READ);
 }
 
 /* ---- the book to be corrected */
@@ -100,7 +105,7 @@ int open_book(struct opened *b, const char *name, int in_place)
 
 int read_opened(struct opened *b, struct octets *o)
 {
-    return read_all(b->fd, o) ? DONE : fail(b->name, "can't be read: %s", strerror(errno));
+    return read_all(b->fd, o, MOST_READ) ? DONE : fail(b->name, "can't be read: %s", strerror(errno));
 }
 
 void close_book(struct opened *b)

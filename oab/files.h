@@ -16,6 +16,7 @@ void keep_standard_files(void);
 
 /* Each says what is wrong and answers FAILED, or DONE. The path - is standard input. */
 int read_file(const char *path, struct octets *o);
+int read_up_to(const char *path, struct octets *o, size_t most);
 
 /* A book that is to be corrected where it stands is locked until it is closed: two corrections of one book follow one
  * another. */

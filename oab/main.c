@@ -49,6 +49,12 @@ static const struct entry {
         "1; strings stand octet by octet, quoted where they hold a comma, a quote, CR or LF; an absent value is an\n"
         "empty field. Only columns of the types number, yes-or-no, narrow and text can be exported.",
         run_export, 1, 1, OUT | QUIET | TAG },
+    { "import", "--like BOOK -o NEW SHEET",
+        "A book from a sheet, as export makes it and a spreadsheet saves it again: comma-separated text whose first\n"
+        "line has 1 to 16 tags and whose lines end in CR LF. The header table and the header record are BOOK's, and\n"
+        "so are the flags of each column that BOOK has; other columns have none. Fields may stand in quotes that\n"
+        "they don't need; an empty field is an absent value. Where the text isn't a sheet, line and column are said.",
+        run_import, 1, 1, OUT | QUIET | DRY | LIKE | FLAGS },
     { "index", "BOOK",
         "The book's index, saved as BOOK.index or where -o says. With it get and show look a record up without\n"
         "judging the others. When the book has changed it is made anew: an index that isn't the book's is refused.",
@@ -84,6 +90,8 @@ static const struct option {
     { 'i', "-i", "A to Z are read as a to z", ALIKE },
     { 't', "-t TAG", "values under this tag alone", TAG },
     { 0, "--index FILE", "look up through the index that is saved in FILE", INDEX },
+    { 0, "--like BOOK", "the book that header table, header record and flags are taken from", LIKE },
+    { 0, "--flags LIST", "the columns' flags instead, parted by commas: index, key, 'index key' or a number", FLAGS },
     { 0, "--json", "one object a line", JSON },
     { 0, "--names", "tags by the names of MS-OXOAB's tables, where they have one", NAMES },
     { 0, "--raw", "the octets of the value's encoding", RAW },
@@ -102,7 +110,7 @@ static void describe(FILE *to, const struct entry *e)
         if (shown & options[i].bit) fprintf(to, "  %-12s  %s\n", options[i].word, options[i].says);
     if (e->run == run_export)
         fprintf(to, "  %-12s  %s\n", "-t TAG,..", "the columns, in this order; those of a second -t follow them");
-    if (e->options & DRY && e->run != run_index)
+    if (e->options & DRY && e->run != run_index && e->run != run_import)
         fputs("\nThe book is corrected where it stands: a new file beside it is synced and renamed over it. A refusal\n"
               "leaves it as it is.\n", to);
     fputs("\nRECORD is 'header' or a number from 0, TAG eight hex digits or a name such as DisplayName. Values:\n"
@@ -115,7 +123,8 @@ static void describe_all(FILE *to)
 {
     size_t i;
     fputs("usage: oab COMMAND [OPTION..] ..\n\n"
-          "Offline address books (version 4 full details files): judged, looked up, exported, corrected.\n\n", to);
+          "Offline address books (version 4 full details files): judged, looked up, exported, imported, corrected.\n\n",
+        to);
     for (i = 0; i < COMMANDS; i++) fprintf(to, "  oab %s %s\n", commands[i].name, commands[i].takes);
     fputs("\n'oab COMMAND --help' says more, 'oab --version' which one this is.\n"
           "Exit status: 0 done, 1 refused or nothing found, 2 usage or system error, 3 absent, with -e.\n", to);
@@ -154,8 +163,18 @@ static unsigned flags_in(const char *word)
 /* Options that the next word belongs to: where it is kept, and their bit. */
 static const char **taken_by(struct command *c, const char *word, unsigned *bit)
 {
-    *bit = strcmp(word, "-o") == 0 ? OUT : strcmp(word, "--index") == 0 ? INDEX : 0;
-    return *bit == OUT ? &c->out : *bit == INDEX ? &c->index : NULL;
+    const struct {
+        const char *word, **kept;
+        unsigned bit;
+    } taking[] = { { "-o", &c->out, OUT }, { "--index", &c->index, INDEX }, { "--like", &c->like, LIKE },
+        { "--flags", &c->flags, FLAGS } };
+    size_t i;
+    for (i = 0; i < sizeof taking / sizeof *taking; i++)
+        if (strcmp(word, taking[i].word) == 0) {
+            *bit = taking[i].bit;
+            return taking[i].kept;
+        }
+    return NULL;
 }
 
 /* Options are taken out of the words, up to --. */
@@ -175,7 +194,7 @@ static int take_options(struct command *c, int argc, char **argv)
             c->options |= TAG;
         } else if ((word = taken_by(c, argv[i], &bits)) != NULL) {
             if (*word) return fail(argv[i], "is given twice");
-            if (++i == argc) return fail(argv[i - 1], "the file is missing");
+            if (++i == argc) return fail(argv[i - 1], bits == FLAGS ? "the list is missing" : "the file is missing");
             *word = argv[i];
             c->options |= bits;
         } else if ((bits = flags_in(argv[i])) != 0) {
@@ -187,18 +206,28 @@ static int take_options(struct command *c, int argc, char **argv)
     return DONE;
 }
 
+/* What a command can't do without, beside its words, in words; null where nothing is missing. */
+static const char *option_missing(const struct command *c, const struct entry *e)
+{
+    if (e->run == run_export && c->tag_count == 0) return "-t is missing: it names the columns";
+    if (e->run == run_import && !c->like) return "--like is missing: it names the book that the header is taken from";
+    if (e->run == run_import && !c->out) return "-o is missing: it says where the book goes";
+    return NULL;
+}
+
 static int fits(const struct command *c, const struct entry *e)
 {
+    const char *missing = option_missing(c, e);
     size_t i;
     for (i = 0; i < OPTIONS; i++)
         if (c->options & options[i].bit & ~e->options) return fail(options[i].word, "is no option of %s", e->name);
     if (c->options & JSON && c->options & RAW) return fail("--raw", "can't be had with --json");
     if (c->options & JSON && c->options & NAMES) return fail("--names", "can't be had with --json, which has both");
     if (c->tag_count > 1 && e->run != run_export) return fail("-t", "is given twice");
-    if (c->count < e->least || c->count > e->most || (e->run == run_export && c->tag_count == 0)) {
+    if (c->count < e->least || c->count > e->most || missing) {
         if (c->count > e->most) fail(c->words[e->most], "is one word too many");
         else if (c->count < e->least) fail(e->name, "a word is missing");
-        else fail(e->name, "-t is missing: it names the columns");
+        else fail(e->name, "%s", missing);
         describe(stderr, e);
         return FAILED;
     }

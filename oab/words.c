@@ -36,6 +36,7 @@ const char *wt_words(uint32_t number)
         "there is no room for the result",
         "what is offered breaks its form",
         "the index isn't the book's, or its entry lies outside the book",
+        "the text isn't a sheet",
     };
     return number < sizeof words / sizeof *words ? words[number] : "refused";
 }

@@ -16,7 +16,7 @@ import zlib
 sys.dont_write_bytecode = True
 
 import make
-from model import books, indexes, oab, reasons, sheets
+from model import books, imports, indexes, oab, reasons, sheets
 
 
 def check_serial():
@@ -298,6 +298,161 @@ def check_sheets_differ():
     assert len(texts) == len(small)
 
 
+def check_imports():
+    """Every import whose book or refusal is known by how it was made; a book in any room from one octet short on."""
+    for each in imports.on_purpose():
+        got = oab.from_sheet(*each.given(), each.room)
+        assert got == each.answer, (each.given(), each.room, each.answer, got)
+        if got[0] == 'made' and each.room < 400:
+            assert oab.judge(got[1])[0] == 'good'
+            assert oab.from_sheet(*each.given(), len(got[1]) - 1) == ('refused', 17, 0)
+            assert oab.from_sheet(*each.given(), len(got[1]) + 5) == got
+
+
+def check_imports_back():
+    """A book of columns that can be exported comes back with equal octets, but for unused flag bits, which are zero."""
+    rng = random.Random(8)
+    tables = [made.table for made in sheets.chosen()] + [books.MAILROOM_TABLE, books.DESK_TABLE]
+    tables += [sheets.spiced(rng, books.some_table(rng)) for _ in range(300)]
+    for header, address, header_row, rows in tables:
+        tags = [tag for tag, _ in address]
+        choice = sheets.some_choice(rng, (header, address, header_row, rows))
+        if not choice:
+            continue
+        columns = [(tag, dict(address)[tag]) for tag in choice]
+        picked = [[row[tags.index(tag)] for tag in choice] for row in rows]
+        book = books.octets_of((header, columns, header_row, picked))
+        record = oab.read_book(book).header_record
+        got = oab.from_sheet(oab.make_sheet(book, choice), [flags for _, flags in columns], [tag for tag, _ in header],
+                             [flags for _, flags in header], book[record.place:record.place + record.size], len(book))
+        at, clean = 24, bytearray(book)
+        for count in (len(header), len(columns)):
+            for row in range(count):
+                clean[at + 8 * row:at + 8 * row + 4] = bytes([book[at + 8 * row] & 3, 0, 0, 0])
+            at += 8 * count + 4
+        assert got == ('made', books.mended(clean))
+
+
+def check_imports_by_csv():
+    """What Python's csv reads in a text is what the book from it holds."""
+    rng = random.Random(9)
+    made = 0
+    while made < 600:
+        given = imports.some_import(rng)
+        answer = oab.from_sheet(*given, 4000)
+        if answer[0] != 'made':
+            continue
+        made += 1
+        lines = csv.reader(io.StringIO(given[0].decode('latin-1'), newline=''), strict=True)
+        found = [[field.encode('latin-1') for field in line] or [b''] for line in lines]
+        table = oab.table_of(answer[1])
+        assert found == sheets.cells(table, [tag for tag, _ in table[1]])
+
+
+# Types, an alphabet, and how long the texts are that are tried behind the first line.
+SMALL_ALPHABETS = (([0x3001001E], b'a,"\r\n\0', 5), ([0x30010003], b'012,"\r\n', 4), ([0x3001000B], b'012,"\r\n', 4),
+                   ([0x3001001E, 0x30020003], b'01",\r\n', 5), ([0x30010003, 0x3002000B], b'01",\r\n', 5),
+                   ([0x3001000B, 0x3002001E, 0x3003000B], b'1",\r\n', 6))
+
+
+def strings_of(pieces, most):
+    """All that the pieces make, one behind the other, in at most so many octets."""
+    found, longest = {b''}, {b''}
+    while longest:
+        longest = {front + piece for front in longest for piece in pieces if len(front + piece) <= most}
+        found |= longest
+    return found
+
+
+def every_field(tag, alphabet, most):
+    """All spellings of all fields of a type, from the letters of an alphabet, in at most so many octets."""
+    letters = {bytes([octet]) for octet in alphabet} - {b'\0'}
+    if tag & 0xFFFF == 0x001E:
+        plain = strings_of(letters - {b',', b'"', b'\r', b'\n'}, most)
+        quoted = strings_of(letters - {b'"'} | {b'""'}, most - 2)
+    elif tag & 0xFFFF == 0x0003:
+        digits = strings_of({letter for letter in letters if letter.isdigit()}, most)
+        plain = quoted = {text for text in digits if text in (b'', b'0') or text[:1] != b'0'}
+    else:
+        plain = quoted = {b'', b'0', b'1'}
+    return {field for field in plain | {b'"' + text + b'"' for text in quoted} if len(field) <= most}
+
+
+def every_text(tags, alphabet, most):
+    """All texts of lines of at most so many octets."""
+    lines = {b''}
+    for i, tag in enumerate(tags):
+        end, rest = (b'\r\n', 2) if i + 1 == len(tags) else (b',', len(tags) - i + 1)
+        fields = every_field(tag, alphabet, most - i - rest)
+        lines = {front + field + end for front in lines for field in fields if len(front + field) + rest <= most}
+    return strings_of(lines, most)
+
+
+def check_imports_all():
+    """Every text of a few letters behind the first line: 20 at the first octet with which no sheet begins, else at the
+    end, by the set of all beginnings of all short sheets. A quote, the commas and CR LF are enough to end any line."""
+    for tags, alphabet, most in SMALL_ALPHABETS:
+        texts = every_text(tags, alphabet, most + len(tags) + 2)
+        begins = {text[:n] for text in texts for n in range(len(text) + 1)}
+        head = b','.join(b'%08X' % tag for tag in tags) + b'\r\n'
+        for n in range(most + 1):
+            for letters in itertools.product(alphabet, repeat=n):
+                text = bytes(letters)
+                got = oab.from_sheet(head + text, [0] * len(tags), [], [], b'\x04\0\0\0', 400)
+                if text in texts:
+                    assert got[0] == 'made' or (text == b'' and got == ('refused', 16, 0))
+                    continue
+                place = next((p for p in range(n) if text[:p + 1] not in begins), n)
+                assert got == ('refused', 20, len(head) + place), (head + text, got)
+
+
+def check_imports_first_lines():
+    """Every octet in every place of some first lines: what may stand there is known by the line's form."""
+    digit = set(b'0123456789ABCDEF')
+    one, quoted = [digit] * 8, [{0x22}] + [digit] * 8 + [{0x22}]
+    for parts in ((one,), (quoted,), (one, quoted), (quoted, one), (one,) * 15, (one,) * 16, (quoted,) * 16):
+        allowed, line = [], b''
+        for i, part in enumerate(parts):
+            sets = list(part)
+            sets[0] = digit | {0x22}
+            allowed += sets + [{0x2C, 0x0D} if i < 15 else {0x0D}]
+            line += b''.join(bytes([min(octets - {0x22} or octets)]) for octets in part) + b','
+        line = line[:-1] + b'\r\n'
+        allowed += [{0x0A}]
+        assert len(allowed) == len(line)
+        for at, may in enumerate(allowed):
+            assert oab.from_sheet(line[:at], [], [], [], b'', 0) == ('refused', 20, at)
+            for octet in range(256):
+                answer = oab.from_sheet(line[:at] + bytes([octet]), [], [], [], b'', 0)
+                whole = at + 1 == len(line) and octet in may
+                assert answer == (('refused', 15, 0) if whole else ('refused', 20, at + (octet in may)))
+
+
+def check_imports_at_limits():
+    """16 and 17 told by the call, the limits lowered for the while: 32 octets of tables, 4 of a header record, then 5
+    and the string with its 00 for each line."""
+    limit, records = oab.LIMIT, oab.MOST_RECORDS
+    text = b'3001001F\r\nab\r\ncdef\r\n'                  # ends at 36, opened 41, given 44, opened 49, given 54
+    try:
+        for oab.LIMIT, room, answer in ((54, 54, 'made'), (54, 99, 'made'), (54, 53, 17), (53, 99, 16), (53, 53, 16),
+                                        (53, 54, 16), (53, 52, 16), (53, 49, 16), (53, 48, 17), (49, 49, 16),
+                                        (48, 48, 16), (48, 44, 16), (48, 43, 17), (43, 43, 16), (43, 41, 16),
+                                        (43, 40, 17), (40, 40, 16), (40, 36, 16), (40, 35, 17), (35, 35, 16),
+                                        (35, 32, 16), (35, 31, 17)):
+            got = oab.from_sheet(text, [0], [], [], b'\x04\0\0\0', room)
+            assert got[0] == 'made' if answer == 'made' else got == ('refused', answer, 0), (oab.LIMIT, room, got)
+        oab.LIMIT, oab.MOST_RECORDS = limit, 2
+        for lines, room, answer in ((2, 48, 'made'), (3, 53, 16), (3, 48, 16), (3, 47, 17), (4, 99, 16), (2, 47, 17)):
+            got = oab.from_sheet(b'3001001F\r\n' + b'a\r\n' * lines, [2], [], [], b'\x04\0\0\0', room + 2)
+            assert got[0] == 'made' if answer == 'made' else got == ('refused', answer, 0), (lines, room, got)
+        # The third line's text is at fault, or its key is missing: 20 comes first, 16 for the opening before the key.
+        text = b'3001001F\r\na\r\na\r\n'
+        assert oab.from_sheet(text + b'\xFF\r\n', [2], [], [], b'\x04\0\0\0', 99) == ('refused', 20, 16)
+        assert oab.from_sheet(text + b'\r\n', [2], [], [], b'\x04\0\0\0', 99) == ('refused', 16, 0)
+    finally:
+        oab.LIMIT, oab.MOST_RECORDS = limit, records
+
+
 def check_writing():
     """The calls lay down the same octets as the book written at once."""
     rng = random.Random(5)
@@ -352,6 +507,8 @@ def check_length_limit():
 if __name__ == '__main__':
     for check in (check_serial, check_document_cases, check_numbers, check_utf8, check_books, check_refusals,
                   check_reasons, check_reasons_and_lookups, check_indexes, check_old_limit, check_sheets,
-                  check_sheets_by_csv, check_sheets_differ, check_writing, check_count_limit, check_length_limit):
+                  check_sheets_by_csv, check_sheets_differ, check_imports, check_imports_back, check_imports_by_csv,
+                  check_imports_all, check_imports_first_lines, check_imports_at_limits, check_writing,
+                  check_count_limit, check_length_limit):
         check()
     print('the model holds')

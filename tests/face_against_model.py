@@ -3,8 +3,8 @@
 Run from the top: python3 tests/face_against_model.py [SEED]. The library is that of `make shared`; where the
 environment says LIBRARY='a.o b.o ..', it is one linked of these objects, as for a machine that the kit doesn't compile
 for. The calls are those of make.py's streams made anew with other seeds: judging and columns, lookups, reasons,
-indexes, sheets, writings, corrections; then serials of any octets. Each is made on the model and on the library, from
-the same octets.
+indexes, sheets, books from sheets, writings, corrections; then serials of any octets. Each is made on the model and on
+the library, from the same octets.
 Writings also get another buffer between the calls: larger, smaller, elsewhere. Ends with "N calls, 0 differ".
 """
 
@@ -19,7 +19,7 @@ from pathlib import Path
 sys.dont_write_bytecode = True
 
 import make
-from model import books, indexes, oab, reasons, sheets
+from model import books, imports, indexes, oab, reasons, sheets
 
 TOP = Path(__file__).resolve().parent.parent
 SHIM = 0xA5A5A5A5A5A5A5A5       # what the numbers of a struct are before a call
@@ -251,6 +251,8 @@ def read_indexed(stream, rng):
 # ---- sheets: make.py's stream, each call made on the library, too
 
 class FaceSheet(make.SheetStream):
+    most_given = 1 << 20
+
     def __init__(self, library):
         super().__init__()
         self.lib = library
@@ -278,6 +280,19 @@ class FaceSheet(make.SheetStream):
         return want
 
 
+    def back(self, text, flags, heads, header_flags, record, room):
+        want = super().back(text, flags, heads, header_flags, record, room)
+        lent, size = octets(b'\xA5' * room)
+        out = Length()
+        answer = self.lib.wt_from_sheet(*octets(text), *words(flags), *words(heads), *words(header_flags),
+                                        *octets(record), lent, size, ctypes.byref(out))
+        made = want[1] if want[0] == 'made' else b''
+        model = (0, [0, len(made)]) if made else (want[1], refused(out, want[2]))
+        after = made + b'\xA5' * (room - len(made))
+        compare(('from sheet', text[:80], flags[:9], room), model + (after,), (answer, out.list(), bytes(lent)[:room]))
+        return want
+
+
 def export(stream, rng):
     """make.py's sheets; choices of up to some hundred tags, octets that are no book, a book that is too long."""
     make.sheet_purpose(stream)
@@ -297,6 +312,28 @@ def export(stream, rng):
     small = books.small_book()
     for choice in ([sheets.MAIL], [], [0]):
         stream.export(small + bytes(oab.LIMIT + 1 - len(small)), choice, 100)
+
+
+def bring_back(stream, rng):
+    """make.py's imports; several damages at once, more lines, thousands of flags or header columns, any octets."""
+    make.import_purpose(stream)
+    make.import_random(stream, rng, 4000, False)
+    make.import_random(stream, rng, 400, True)
+    make.import_long(stream)
+    for _ in range(1500):
+        given = imports.some_import(rng, rng.choice((3, 20)))
+        for _ in range(rng.choice((0, 1, 1, 2, 3))):
+            given = imports.some_damage(rng, given)
+        for room in (2000, rng.randrange(300)):
+            stream.back(*given, room)
+    for count in (129, 193, 5000):
+        for text in (imports.A + b'a\r\n', b'', b'3001001F,3001001F\r\n,\r\n'):
+            stream.back(text, [0] * count, [], [], b'', 50)
+            stream.back(text, [0], list(range(count)), [0] * count, b'', 50)
+            stream.back(text, [0, 0], [3] * count, [0] * (count - 1), b'', 50)
+    for length in (0, 1, 9, 10, 100):
+        stream.back(rng.randbytes(length), [0], [], [], rng.randbytes(4), 60)
+        stream.back(imports.A + rng.randbytes(length), [0], [], [], b'\x04\0\0\0', 300)
 
 
 # ---- writings: make.py's stream, each call made on the library, too
@@ -458,6 +495,7 @@ def main():
     give_reasons(face, rng)
     read_indexed(FaceIndex(library), rng)
     export(FaceSheet(library), rng)
+    bring_back(FaceSheet(library), rng)
     stream = FaceWriting(library)
     make.writing_begins(stream, rng)
     make.writing_refusals(stream, rng)

@@ -1,6 +1,6 @@
 """The calls for C programs at the limits of length: a book of 268,435,456 octets is judged, looked up in, asked why
-there is no value, exported, written and corrected, and with one octet more each call has its published refusal and
-changes nothing. An old index is read beside 16,777,216 octets and not beside one more.
+there is no value, exported, made from its sheet, written and corrected, and with one octet more each call has its
+published refusal and changes nothing. An old index is read beside 16,777,216 octets and not beside one more.
 
 Run from the top: python3 tests/face_at_limit.py. The library is that of face_against_model.py. What is expected is by
 hand (tests/model/large.py), since the model would take minutes. Ends with "N calls, 0 differ".
@@ -112,6 +112,62 @@ def export(lib):
     exported(lib, book, [NAME], b'3001001F\r\n"' + b'""' * count + b'"\r\n', None, (0, -1))
 
 
+def brought_back(lib, what, text, flags, answer, room):
+    """A book from a sheet, with no header columns: the book's octets, or a refusal that leaves every octet."""
+    buffer, out = bytearray(b'\xA5') * room, Length()
+    got = lib.wt_from_sheet(*lent(text), *words(flags), *words([]), *words([]), *octets(b'\x04\0\0\0'), *lent(buffer),
+                            ctypes.byref(out))
+    number, place = answer if isinstance(answer, tuple) else (0, 0)
+    done = 0 if number else len(answer)
+    same = not done or memoryview(buffer)[:done] == answer
+    behind = buffer.count(b'\xA5', done) == room - done
+    compare((what, room, number), (number, [place, done], True, True), (got, out.list(), same, behind))
+
+
+def bring_back(lib):
+    """Sheets of books at the limit, and one octet or one line more. 16 and 17 are told by the call: a single value that
+    passes both the limit and the room is 16; a value that passes the room alone is 17, whatever follows it."""
+    tags = b'39FE001F,3001001F\r\n'
+    book, count = large.one_string(oab.LIMIT, b'n')
+    text = bytearray(tags + b'a,' + b'n' * count + b'\r\n')
+    for room, answer in ((oab.LIMIT, book), (oab.LIMIT + 9, book), (oab.LIMIT - 1, (17, 0)), (100, (17, 0))):
+        brought_back(lib, 'at the limit', text, [2, 0], answer, room)
+    text[-4] = 0xFF
+    brought_back(lib, 'no UTF-8 at the end', text, [2, 0], (20, len(tags) + 2), 100)
+    text[-4:] = b'nnn\r\n'
+    for room in (oab.LIMIT + 9, oab.LIMIT, oab.LIMIT - 1, 100):       # written up to the name in each of these rooms
+        brought_back(lib, 'one octet more', text, [2, 0], (16, 0), room)
+    brought_back(lib, 'the value before it', text, [2, 0], (17, 0), len(large.FRONT) + 6)
+    text[-2:] = b'\r'
+    brought_back(lib, 'no end', text, [2, 0], (20, len(text)), 100)
+    text = bytearray(tags + b'a,' + b'm' * 1000 + b'\r\nb,' + b'n' * count + b'\r\n')
+    brought_back(lib, 'no room in the line before', text, [2, 0], (17, 0), 500)
+    brought_back(lib, 'room for the line before', text, [2, 0], (16, 0), 5000)
+    del text
+    book, count = large.one_string(oab.LIMIT, b'"')
+    brought_back(lib, 'quotes', bytearray(tags + b'a,"' + b'""' * count + b'"\r\n'), [2, 0], book, oab.LIMIT)
+    book, places = large.book(oab.LIMIT)
+    brought_back(lib, 'many', bytearray(large.sheet(book, places, [SMTP, NAME])), [2, 0], book, oab.LIMIT)
+    book, _, sheet = large.sixteen(oab.LIMIT)
+    brought_back(lib, 'sixteen columns', bytearray(sheet), [0] * 16, book, oab.LIMIT)
+
+
+def many_lines(lib):
+    """65,535 lines are taken, the next is 16 when its record is opened; a room that ends before is 17."""
+    head, line = b'3001001F\r\n', b'a\r\n'
+    book = bytearray(12) + oab.metadata_octets([], [(NAME, 2)]) + oab.record_octets([])
+    book += oab.record_octets([b'a\0']) * 65_535
+    large.sealed(book, 65_535)
+    length = len(book)
+    for lines, last, room, answer in (
+            (65_535, b'', length, book), (65_535, b'', length + 50, book), (65_535, b'', length - 1, (17, 0)),
+            (65_536, b'', length + 50, (16, 0)), (65_536, b'', length, (16, 0)), (65_536, b'', length - 1, (17, 0)),
+            (70_000, b'', length, (16, 0)), (65_535, b'\r\n', length, (16, 0)), (65_534, b'\r\n', length, (16, 0)),
+            (65_534, b'\r\n', length - 3, (17, 0)), (65_535, b'\xFF\r\n', length, (20, 196_615)),
+            (65_535, b'a', length, (20, 196_616))):
+        brought_back(lib, (lines, last), bytearray(head + line * lines + last), [2], answer, room)
+
+
 def correct(lib, call, book, length, words_of, refusal, want):
     """One correction in a buffer of its own; a refused one leaves every octet."""
     buffer, out = bytearray(book), Length()
@@ -170,6 +226,8 @@ def main():
     lib = face.load()
     read(lib)
     export(lib)
+    bring_back(lib)
+    many_lines(lib)
     corrections(lib)
     written(lib)
     print(f'{face.calls} calls at the limits of length, {face.differ} differ')

@@ -19,7 +19,7 @@ from pathlib import Path
 
 sys.dont_write_bytecode = True
 
-from model import books, indexes, oab, reasons, sheets
+from model import books, imports, indexes, oab, reasons, sheets
 
 TOP = Path(__file__).resolve().parent.parent
 HEADER_RECORD = 0xFFFFFFFF      # stands for the header record where a record is named
@@ -794,14 +794,19 @@ def make_index():
 # ---------------------------------------------------------------- sheet_cases
 
 class SheetStream(Stream):
-    """Sheets of a book, asked of the model as the cases are added.
+    """Sheets of a book, and books from sheets, asked of the model as the cases are added.
 
     Payload, first octet:
       0 a book                                   "book"
       1 tags of 4: the length of the sheet       "made LENGTH" or "refused N P"
       2 4 room, tags of 4: the sheet, written    the same, a blank, and the hex of all of them
         in as many octets A5
+      3 4 each: room, number of header tags, of header flags, of flags, octets of the header
+        record; then all of those in this order, 4 octets a tag or flags, at most 192 of each;
+        then the text: the book from it, written in as many octets A5    as 2, with the book's length
     """
+
+    most_given = 192
 
     def __init__(self):
         super().__init__('sheet_cases')
@@ -832,6 +837,19 @@ class SheetStream(Stream):
         self.count('export', answer)
         self.add(b'\2' + oab.four(room) + b''.join(oab.four(tag) for tag in tags),
                  ' '.join(str(word) for word in words) + ' ' + hex_of(after))
+        return answer
+
+
+    def back(self, text, flags, heads, header_flags, record, room):
+        """A book from a sheet's text."""
+        assert max(len(flags), len(heads), len(header_flags)) <= self.most_given
+        answer = oab.from_sheet(text, flags, heads, header_flags, record, room)
+        made = answer[1] if answer[0] == 'made' else b''
+        words = ('made', len(made)) if made else answer
+        self.count('import', answer)
+        payload = b'\3' + b''.join(oab.four(n) for n in (room, len(heads), len(header_flags), len(flags), len(record)))
+        payload += b''.join(oab.four(n) for n in heads + header_flags + flags) + record + text
+        self.add(payload, ' '.join(str(word) for word in words) + ' ' + hex_of(made + b'\xA5' * (room - len(made))))
         return answer
 
 
@@ -919,6 +937,46 @@ def sheet_long(stream):
     sheet_rooms(stream, none, [sheets.NAME], (0,))
 
 
+def import_purpose(stream):
+    """Every import whose book or refusal is known by hand; a book also in one octet less and in some more."""
+    for i, each in enumerate(imports.on_purpose()):
+        assert stream.back(*each.given(), each.room) == each.answer
+        if each.answer[0] == 'made' and each.room < 90 and i % 3 == 0:
+            assert stream.back(*each.given(), len(each.answer[1]) - 1) == ('refused', 17, 0)
+            assert stream.back(*each.given(), len(each.answer[1]) + i % 7) == each.answer
+
+
+def import_random(stream, rng, times, wide):
+    """Random sheets in random spellings, two of three spoilt; rooms around what the book takes."""
+    for number in range(times):
+        given = imports.some_import(rng, rng.choice((1, 1, 2, 3)), rng.choice((4, 16)) if wide else 4)
+        if number % 3:
+            given = imports.some_damage(rng, given)
+        answer = oab.from_sheet(*given, 1 << 16)
+        if answer[0] != 'made':
+            stream.back(*given, rng.choice((0, 9, 33, 60) if answer[1] != 16 else (40, 90, 150)))
+            continue
+        length = len(answer[1])
+        if length > 400:
+            continue
+        stream.back(*given, length + rng.choice((0, 0, 0, 0, 0, 1, 5, -1, -7, -rng.randrange(length))))
+
+
+def import_long(stream):
+    """Many lines, a long string and long digits; few of them, since all octets of the room are printed."""
+    lines = b'39000003,3A00000B\r\n' + b''.join(b'%d,%d\r\n' % (i * 251, i % 2) for i in range(600))
+    assert stream.back(lines, [2, 3], [], [], b'\x04\0\0\0', 6000)[0] == 'made'
+    assert stream.back(lines, [2, 3], [], [], b'\x04\0\0\0', 3000) == ('refused', 17, 0)
+    text = b'3001001F\r\n"' + b'""' * 6000 + b'"\r\n'
+    assert stream.back(text, [0], [], [], b'\x04\0\0\0', 6042)[0] == 'made'
+    assert stream.back(text[:-1], [0], [], [], b'\x04\0\0\0', 9) == ('refused', 20, len(text) - 1)
+    assert stream.back(text[:-3] + b'\xFF' + text[-3:], [0], [], [], b'\x04\0\0\0', 9) == ('refused', 20, 10)
+    digits = b'39000003\r\n1' + b'0' * 60_000 + b'\r\n'
+    assert stream.back(digits, [0], [], [], b'\x04\0\0\0', 9) == ('refused', 20, 10)
+    head = oab.record_octets([b'\x82\xE8\x03' + b'a\0' * 1000])
+    assert stream.back(lines[:24], [0, 0], [0x6800101E], [0], head, 2100)[0] == 'made'
+
+
 def make_sheets():
     stream = SheetStream()
     rng = random.Random(606)
@@ -935,6 +993,10 @@ def make_sheets():
                 stream.export(books.octets_of(table), sheets.some_choice(rng, table, wrong), 400)
     sheet_damaged(stream, rng)
     sheet_long(stream)
+    import_purpose(stream)
+    import_random(stream, rng, 1800, False)
+    import_random(stream, rng, 120, True)
+    import_long(stream)
     print('sheet_cases:', dict(sorted(stream.answers.items())), file=sys.stderr)
     stream.save(1_000_000, 1_000_000)
 

@@ -2,7 +2,7 @@
 
 Run from the top: python3 tests/oab_command.py. It builds the command first (make), or takes the one that OAB names.
 Ends with "N runs, 0 differ". Files: oab_files.py and oab_load.py; spelling: oab_spelling.py; apply: oab_apply.py; why:
-oab_why.py; export: oab_export.py.
+oab_why.py; export: oab_export.py; import: oab_import.py.
 """
 
 import json
@@ -257,7 +257,7 @@ def anywhere(folder):
 
 def helping(folder):
     for words in ((), ('check',), ('list',), ('columns',), ('show',), ('get',), ('find',), ('why',), ('export',),
-                  ('index',), ('set',), ('clear',), ('insert',), ('delete',), ('extract',), ('apply',)):
+                  ('import',), ('index',), ('set',), ('clear',), ('insert',), ('delete',), ('extract',), ('apply',)):
         for option in ('--help', '-h'):
             got = run(*words, option)
             differs((words, option), (0, True, b''), (got[0], got[1].startswith(b'usage: oab '), got[2]))

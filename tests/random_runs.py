@@ -17,15 +17,16 @@ import oab_tools
 from oab_tools import TOP
 
 import make
-from model import books, indexes, oab, reasons, sheets, spelling
+from model import books, imports, indexes, oab, reasons, sheets, spelling
 from model.names import NAMES
 from oab_apply import line_of
 from oab_spelling import is_safe
 
-COMMANDS = ('check', 'list', 'columns', 'show', 'get', 'find', 'why', 'export', 'index', 'set', 'clear', 'insert',
-            'delete', 'extract', 'apply')
-OPTIONS = ('-o', '-q', '-n', '-e', '-h', '-i', '-t', '--index', '--json', '--names', '--raw', '--help', '--version',
-           '--', '-qn', '-o')
+COMMANDS = ('check', 'list', 'columns', 'show', 'get', 'find', 'why', 'export', 'import', 'index', 'set', 'clear',
+            'insert', 'delete', 'extract', 'apply')
+OPTIONS = ('-o', '-q', '-n', '-e', '-h', '-i', '-t', '--index', '--like', '--flags', '--json', '--names', '--raw',
+           '--help', '--version', '--', '-qn', '-o')
+FLAGS = ('0', 'key', '0,1', '3,index key', '')
 OCTETS = {'--raw', 'extract', 'export', '-'}  # with these the output may be octets
 
 
@@ -60,7 +61,7 @@ def some_word(rng, table):
     """Any word without a slash, so that nothing outside the folder is named."""
     tags = [tag for tag, _ in (table[0] + table[1] if table else [])] + [0x3001001F]
     return rng.choice((
-        lambda: 'book', lambda: 'record', lambda: 'lines', lambda: 'saved', lambda: '-', lambda: 'out',
+        lambda: 'book', lambda: 'record', lambda: 'lines', lambda: 'saved', lambda: 'sheet', lambda: '-', lambda: 'out',
         lambda: 'header',
         lambda: str(rng.randrange(4)),
         lambda: f'{rng.choice(tags):08X}', lambda: f'{rng.choice(tags):08X}', lambda: rng.choice(list(NAMES.values())),
@@ -80,6 +81,8 @@ def some_words(rng, table):
              'find': ['book', '--', rng.choice(value)[:3]],
              'why': ['book', rng.choice(('0', 'header')), f'{tag ^ rng.choice((0, 0, 1, 0x10000)):08X}'],
              'export': ['-t', ','.join(f'{one:08X}' for one in chosen), 'book'],
+             'import': ['--like', 'book', *rng.choice(([], [], ['--flags', rng.choice(FLAGS)])),
+                        '-o', rng.choice(('out', 'out', '-', 'book')), 'sheet'],
              'set': ['book', '0', f'{tag:08X}', '--', *value],
              'clear': ['book', '0', f'{tag:08X}'], 'insert': ['book', '0', 'record'], 'delete': ['book', '0'],
              'extract': ['book', '0'],
@@ -106,12 +109,24 @@ def some_lines(rng, table):
     return bytes(text)
 
 
+def some_sheet(rng, table):
+    """A sheet of the book's own columns, another one, a damaged one, or any octets."""
+    what = rng.randrange(5)
+    text = imports.some_import(rng)[0]
+    if table and what in (0, 1):
+        chosen = sheets.some_choice(rng, table)
+        text = oab.make_sheet(books.octets_of(table), chosen) if chosen else text
+    if what == 4:
+        return some_octets(rng, 60)
+    return imports.damaged(rng, text) if what in (1, 2) else text
+
+
 def one_run(rng, folder, answers):
     """None, or what is wrong."""
     octets, table = some_book(rng)
     files = {'book': octets, 'lines': some_lines(rng, table),
              'record': rng.choice((some_octets(rng, 60), oab.record_octets(table[3][0]) if table else b'')),
-             'saved': some_index(rng, octets, table)}
+             'saved': some_index(rng, octets, table), 'sheet': some_sheet(rng, table)}
     for path in folder.iterdir():
         path.unlink()
     for name, content in files.items():

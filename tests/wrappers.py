@@ -114,7 +114,10 @@ int main(void)
     printf("%u %u ", wt_version() == WT_VERSION, wt_judge((const uint8_t *)"", 0, &j));
     printf("%u ", wt_why((const uint8_t *)"", 0, WT_HEADER, 0, &r));
     printf("%u ", wt_sheet_length((const uint8_t *)"", 0, &tag, 1, &made));
-    printf("%u %u", wt_sheet((const uint8_t *)"", 0, &tag, 1, text, 1, &made), text[0]);
+    printf("%u %u ", wt_sheet((const uint8_t *)"", 0, &tag, 1, text, 1, &made), text[0]);
+    printf("%u ", wt_from_sheet((const uint8_t *)"", 0, &tag, 0, &tag, 0, &tag, 0, (const uint8_t *)"", 0, text, 1,
+        &made));
+    printf("%u", text[0]);
     return 0;
 }
 '''
@@ -140,7 +143,7 @@ def installed(folder):
         env = {**os.environ, 'PKG_CONFIG_PATH': f'{folder}/p/lib/pkgconfig', 'PKG_CONFIG_SYSROOT_DIR': str(folder)}
         flags = sh('pkg-config', '--cflags', '--libs', 'windtrellis', env=env)[1].decode().split()
     differs('a program', (0, b'', b''), sh('cc', '-Wall', '-Werror', '-o', program, source, *flags))
-    differs('and it runs', (0, b'1 2 2 2 2 7', b''), sh(program))
+    differs('and it runs', (0, b'1 2 2 2 2 7 20 7', b''), sh(program))
 
 
 COMPLETE = '''compopt() { :; }
@@ -164,7 +167,10 @@ def completion(folder):
                         ('oab export -t Smtp', 'SmtpAddress '),
                         ('oab export -t DisplayName,Surn', 'DisplayName,Surname '),
                         ('oab export -o out -t A,B,SendR', 'A,B,SendRichInfo '), ('oab export -', '-o -q --help -t '),
-                        ('oab export -t A examples/small.b', 'examples/small.book '),
+                        ('oab export -t A examples/small.b', 'examples/small.book '), ('oab im', 'import '),
+                        ('oab import --li', '--like '), ('oab import --like examples/small.b', 'examples/small.book '),
+                        ('oab import --like a --flags 0 -o b examples/small.b', 'examples/small.book '),
+                        ('oab import -', '-o -q --help -n --like --flags '),
                         ('oab check examples/small.b', 'examples/small.book '), ('oab set --n', ' ')):
         differs(words, (0, want.encode(), b''), sh('bash', '-c', COMPLETE, 'bash', *words.split(), cwd=TOP))
 

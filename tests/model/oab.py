@@ -1,11 +1,13 @@
 """A plain model of version 4 books (uncompressed full details files).
 
 What: judging a book, looking values up or saying why there is none, listing, exporting,
-writing and correcting one, all on byte strings. Why: the expected output of the tests comes from
+writing and correcting one, a book from a sheet, all on byte strings. Why: the expected output of the tests comes from
 here and never from the code under test. The model is written from document 01 (the scope),
 document 000 (sections 2.9 to 2.9.6.9) and docs/DECISIONS.md, as straight down from their
 words as possible; speed plays no part. "Decision N" below is its number there.
 """
+
+import re
 
 LIMIT = 268_435_456       # most octets of a book (request 111)
 MOST_COLUMNS = 128        # most columns of a table
@@ -766,6 +768,202 @@ def encoding(type_code, kind, value):
     if walk(type_code, octets) != len(octets):  # empty, a 00 inside, or no UTF-8
         raise Refusal(18, 0)
     return octets
+
+
+# ---------------------------------------------------------------- the sheet comes back (request 106, reading 27)
+
+class Part:
+    """A part of a text by two patterns: what it is as a whole, and what its beginnings are, the empty one among them.
+    A text is a beginning of one part behind another where it begins the first, or is all of it and a beginning of the
+    second; so beginnings are made along with the wholes, and no text is ever read octet by octet."""
+
+    def __init__(self, whole, beginning):
+        self.whole, self.beginning = whole, beginning
+
+    def all_of(self, text):
+        return re.fullmatch(self.whole, text) is not None
+
+    def fault(self, text):
+        """The least p at which the text up to and with octet p can't begin this part, else the text's end. What stands
+        in front of a beginning's end is a beginning, too, so p is found by halves."""
+        low, high = 0, len(text)
+        while low < high:
+            middle = (low + high) // 2
+            if re.fullmatch(self.beginning, text[:middle + 1]):
+                low = middle + 1
+            else:
+                high = middle
+        return low
+
+
+def some(octets, least, most):
+    """From least to most octets of a set of octets, most None: any number."""
+    most = '' if most is None else most
+    return Part(b'[%b]{%d,%b}' % (octets, least, str(most).encode()), b'[%b]{0,%b}' % (octets, str(most).encode()))
+
+
+def either(*parts):
+    return Part(b'(?:%b)' % b'|'.join(part.whole for part in parts),
+                b'(?:%b)' % b'|'.join(part.beginning for part in parts))
+
+
+def behind(first, *rest):
+    """One part behind another."""
+    if not rest:
+        return first
+    second = behind(*rest)
+    return Part(first.whole + second.whole, b'(?:%b|%b%b)' % (first.beginning, first.whole, second.beginning))
+
+
+def repeated(part):
+    return Part(b'(?:%b)*' % part.whole, b'(?:%b)*%b' % (part.whole, part.beginning))
+
+
+COMMA, QUOTE, END = some(b',', 1, 1), some(b'"', 1, 1), behind(some(b'\\r', 1, 1), some(b'\\n', 1, 1))
+DIGITS = either(some(b'0', 0, 1), behind(some(b'1-9', 1, 1), some(b'0-9', 0, None)))
+TRUTH = some(b'01', 0, 1)
+CHARACTERS = some(b'^",\\r\\n\\0', 0, None)
+IN_QUOTES = repeated(either(some(b'^"\\0', 1, 1), behind(QUOTE, QUOTE)))
+
+
+def spelled(plain, quoted):
+    return either(plain, behind(QUOTE, quoted, QUOTE))
+
+
+FIELD = {NUMBER: spelled(DIGITS, DIGITS), YES_OR_NO: spelled(TRUTH, TRUTH), NARROW: spelled(CHARACTERS, IN_QUOTES)}
+FIELD[TEXT] = FIELD[NARROW]
+TAG = spelled(some(b'0-9A-F', 8, 8), some(b'0-9A-F', 8, 8))
+
+
+def first_line(most):
+    """1 to `most` tags, and the line's end."""
+    return behind(TAG, END if most == 1 else either(END, behind(COMMA, first_line(most - 1))))
+
+
+FIRST_LINE = first_line(MOST_CHOSEN)
+# A field that has ended, and what ended it; the CR alone where the text goes on wrongly, or not at all.
+ENDED = re.compile(rb'("(?:[^"]|"")*"|[^",\r\n]*)(,|\r\n?)')
+
+
+def lines_of(tags):
+    """The lines behind the first: a field for each tag."""
+    parts = [FIELD[type_of(tags[0])]]
+    for tag in tags[1:]:
+        parts += [COMMA, FIELD[type_of(tag)]]
+    return repeated(behind(*parts, END))
+
+
+def unquoted(field):
+    return field[1:-1].replace(b'""', b'"') if field[:1] == b'"' else field
+
+
+def value_of(tag, content, place):
+    """What a field holds, to be given to the writer; None is absent."""
+    if content == b'':
+        return None
+    if type_of(tag) == NUMBER:
+        if len(content) > 10 or int(content) > 0xFFFFFFFF:
+            raise Refusal(20, place)
+        return int(content)
+    if type_of(tag) == YES_OR_NO:
+        return content == b'1'
+    if type_of(tag) == TEXT and not utf8_ok(content):
+        raise Refusal(20, place)
+    return content
+
+
+def read_first_line(text):
+    """The tags, and where the line ends."""
+    line = re.match(FIRST_LINE.whole, text)
+    if not line:
+        raise Refusal(20, FIRST_LINE.fault(text))
+    return [int(unquoted(field), 16) for field in line[0][:-2].split(b',')], line.end()
+
+
+def read_lines(text, at, tags):
+    """The values of the lines from `at` on. Those of the fields that have ended are looked at up to the octet at fault,
+    so the first fault that is met is told."""
+    lines = lines_of(tags)
+    end = at + lines.fault(text[at:])
+    good, start, values = text[:end], at, []
+    while field := ENDED.match(good, at):
+        values.append(value_of(tags[len(values) % len(tags)], unquoted(field[1]), at))
+        at = field.end()
+    if not lines.all_of(text[start:]):
+        raise Refusal(20, end)
+    return [values[i:i + len(tags)] for i in range(0, len(values), len(tags))]
+
+
+def done(answer):
+    if answer[0] == 'refused':
+        raise Refusal(*answer[1:])
+
+
+def give(writing, tag, value):
+    """A value by its kind."""
+    kind = type_of(tag)
+    call = {NUMBER: writing.number, YES_OR_NO: writing.yes_or_no}.get(kind, writing.octets)
+    done(call(tag, value))
+
+
+def give_list(writing, tag, value):
+    """A list by its count and then each element, from its encoding."""
+    count, at = number_at(value)
+    done(writing.list(tag, count))
+    kind = ELEMENT[type_of(tag)]
+    for _ in range(count):
+        element = value[at:at + walk(kind, value[at:])]
+        at += len(element)
+        done(writing.element_number(number_at(element)[0]) if kind == NUMBER
+             else writing.element_octets(single(kind, element)))
+
+
+def single(kind, value):
+    """What is handed over for a single value, from its encoding."""
+    if kind == NUMBER:
+        return number_at(value)[0]
+    if kind == YES_OR_NO:
+        return value == b'\1'
+    return value[number_at(value)[1]:] if kind == BINARY else value[:-1]
+
+
+def give_header(writing, heads, record):
+    """The header record, one good record to its last octet or 18, given value by value."""
+    columns = [(tag, 0) for tag in heads]
+    offered_record(record, columns)
+    done(writing.open())
+    for tag, stretch in zip(heads, read_record(record, 0, columns, keys_bind=False).stretches):
+        if stretch is not None:
+            value = record[stretch[0]:stretch[1]]
+            if type_of(tag) in ELEMENT:
+                give_list(writing, tag, value)
+            else:
+                give(writing, tag, single(type_of(tag), value))
+    done(writing.close())
+
+
+def from_sheet(text, flags, heads, header_flags, record, room):
+    """The book of a sheet's text, with flags for its columns, a header table and a header record: ('made', octets)."""
+    try:
+        tags, at = read_first_line(text)
+        if len(flags) != len(tags):
+            raise Refusal(15, 0)
+        if any(type_of(tag) not in EXPORTED for tag in tags):
+            raise Refusal(18, 0)
+        rows = read_lines(text, at, tags)
+        writing, buffer = Writing(), bytearray(room)
+        done(writing.begin(heads, header_flags, tags, flags, buffer))
+        give_header(writing, heads, record)
+        for row in rows:
+            done(writing.open())
+            for tag, value in zip(tags, row):
+                if value is not None:
+                    give(writing, tag, value)
+            done(writing.close())
+        done(writing.finish())
+    except Refusal as refusal:
+        return refusal.answer()
+    return ('made', bytes(buffer[:writing.written]))
 
 
 # ---------------------------------------------------------------- correcting
