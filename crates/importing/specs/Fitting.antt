@@ -201,7 +201,7 @@ rows-fit ss (es ∷ rows) w n k h r m e =
 
 -- ---- the header record as the code goes over it
 
-head-is : (forms : List ℕ) (es : Row) (i : ℕ) (p : List ℕ) (w n : ℕ) → SoundRow (slotsFrom forms []) es → Bits p i es
+pub head-is : (forms : List ℕ) (es : Row) (i : ℕ) (p : List ℕ) (w n : ℕ) → SoundRow (slotsFrom forms []) es → Bits p i es
     → headFrom forms i p w n (valuesOf es) ≡ piecesAt w n (rowPieces (slotsFrom forms []) es)
 unfolding headFrom rowPieces piecesAt stepOf columnGiven
 head-is [] [] i p w n h b = refl

@@ -11,3 +11,5 @@ pub mod LinesCases
 pub mod From
 pub mod Fitting
 pub mod Steps
+pub mod Wrote
+pub mod Cases

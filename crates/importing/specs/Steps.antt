@@ -3,17 +3,20 @@
 use Prim.Native.Nat.{ℕ, _+_, _-_}
 use mathlib.Core.List.{List, [], _∷_, _++_}
 use lib.ListN.{length, drop, replicate}
-use Rattle.octets.specs.Splice.{stored}
+use Rattle.octets.specs.Splice.{splice, stored}
 use Rattle.answers.specs.declared.Verdict.{Verdict}
 use Rattle.answers.specs.Verdict.{_then_, kept}
 use Rattle.answers.specs.declared.Made.{Made}
 use Rattle.answers.specs.Made.{answered}
+use Rattle.entry.specs.Slots.{slotsFrom}
+use Rattle.book.specs.Rows.{rowsOctets}
 use Rattle.book.specs.Book.{Book, bookOctets, headSlots}
 use Rattle.writing.specs.State.{inProgress}
 use Rattle.writing.specs.declared.Writing.{Writing}
-use Rattle.begin.specs.Begin.{startSize, beginAt, columnsFrom}
+use Rattle.begin.specs.Begin.{startSize, beginAt, beginOctets, columnsFrom}
 use Rattle.sheet.specs.Field.{mostChosen, codesOf}
-use Rattle.importing.specs.Head.{offeredIn}
+use Rattle.importing.specs.Head.{offeredIn, headGiven}
+use Rattle.importing.specs.LinesCases.{linesGiven}
 use Rattle.importing.specs.From.{askedAt, bookWith, callsAt}
 use Rattle.importing.specs.Tied.{rowsOf}
 
@@ -22,6 +25,13 @@ codesFor tags = codesOf tags ++ replicate (mostChosen - length tags) 0
 
 unfoldable pub restBook : List ℕ → List ℕ → List ℕ → List ℕ → List ℕ → List ℕ → Book
 restBook tags flags ht hf hrec s = bookWith tags flags ht hf hrec (rowsOf (codesOf tags) s)
+
+-- the header record as it is offered, and the calls, by the forms of its columns and the codes of the sheet's
+unfoldable pub recordsAt : List ℕ → List ℕ → List ℕ → List ℕ → List ℕ → ℕ → ℕ → Verdict
+recordsAt forms codes flags hrec s w n =
+    offeredIn (slotsFrom forms []) hrec
+    then headGiven forms w n hrec
+    then linesGiven codes flags (w + length hrec) n (rowsOf codes s)
 
 -- begin, the header record as it is offered, and the calls
 unfoldable pub givenAt : List ℕ → List ℕ → List ℕ → List ℕ → List ℕ → List ℕ → ℕ → Verdict
@@ -41,6 +51,17 @@ unfoldable pub restOctets : List ℕ → List ℕ → List ℕ → List ℕ → 
 restOctets tags flags ht hf hrec width s d =
     kept (restAt tags flags ht hf hrec width s (length d)) d
     (stored d 0 (bookOctets (restBook tags flags ht hf hrec s)))
+
+-- the tables and the header record, laid down one behind the other
+unfoldable pub frontPut : List ℕ → List ℕ → List ℕ → List ℕ → List ℕ → List ℕ → List ℕ
+frontPut tags flags ht hf hrec d =
+    stored (beginOctets ht hf tags flags d) (startSize (length ht) (length tags)) hrec
+
+-- and the records behind them
+unfoldable pub laidDown : List ℕ → List ℕ → List ℕ → List ℕ → List ℕ → List ℕ → List ℕ → List ℕ → List ℕ
+laidDown tags codes flags ht hf hrec s d =
+    splice (frontPut tags flags ht hf hrec d) (startSize (length ht) (length tags) + length hrec)
+    (rowsOctets (rowsOf codes s))
 
 -- a writing whose records are all closed
 abbrev pub closedBy : ℕ → ℕ → ℕ → ℕ → Writing

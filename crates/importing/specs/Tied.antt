@@ -7,6 +7,7 @@ use native.Mathlib.Decide.{ℕ-discrete}
 use native.Mathlib.Numerals.{add-one}
 use mathlib.Core.Path.{_≡_, refl, sym, ap, ap₂, _∙_}
 use mathlib.Core.Bool.{Bool, true, false, not, cond}
+use mathlib.Core.Logic.{inl, inr}
 use mathlib.Core.Option.{Option, none, some}
 use mathlib.Core.List.{List, [], _∷_, _++_, append-assoc}
 use lib.Dec.{eqb, ltb, leb}
@@ -15,7 +16,7 @@ use lib.Seq.{append-snoc, take-at, drop-at, drop-append-seam}
 use borrow.Author.Tests.{ne-eqb, eq-eqb, ltb-true, le-leb, lt-ltb}
 use Rattle.octets.specs.Cases.{taken}
 use Rattle.octets.specs.Octets.{octetAt}
-use Rattle.answers.specs.declared.Walk.the-variants.{Ends}
+use Rattle.answers.specs.declared.Walk.the-variants.{Ends, Broken}
 use Rattle.whole.specs.Number.{encodeNumber}
 use Rattle.entry.specs.Present.{Row}
 use Rattle.entry.specs.Record.{unlike}
@@ -27,6 +28,8 @@ use Rattle.sheet.specs.Back.{Spells, plainly, inQuotes, content-back}
 use Rattle.scanning.specs.Scan.{fits, held, scanIn}
 use Rattle.scanning.specs.Sheets.{IsLine, IsText, GoodLine, GoodText, lines-are}
 use Rattle.scanning.specs.Exact.{TextIs, text-taken, text-sound}
+use Rattle.scanning.specs.Place.{place-is}
+use Rattle.scanning.specs.Unfit.{refused-for}
 use Rattle.importing.specs.Fields.{endsBy, insideBy, fieldLong, fieldIn, fieldBehind, laidFrom, laidRow, lineLong}
 
 -- ---- how long a field is
@@ -199,3 +202,14 @@ next-line codes xs t h =
 pub no-lines : (codes : List ℕ) → rowsOf codes [] ≡ []
 unfolding rowsOf
 no-lines codes = ap (rowsFrom codes) (lines-are codes [] [] refl)
+
+-- a fault stands in the text, or at its end
+pub scan-within : (codes xs : List ℕ) (p : ℕ) → scanIn (held fits) codes xs ≡ Broken p → p ≤ length xs
+scan-within codes xs p e =
+    elim (refused-for fits codes xs p e) [
+      | inl q ↦ place-is codes xs p q .within
+      | inr u ↦
+          let l = ap length (u .reads) ∙ length-append (u .before) (u .end ∷ u .rest) in
+          let z = u .place in
+          omega arith
+    ]

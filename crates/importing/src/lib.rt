@@ -13,6 +13,7 @@ use answers::refuse;
 use head::forms_of;
 use head::judge_head;
 use head::judge_offered;
+use lines::Records;
 use lines::judge_lines;
 use lines::put_lines;
 use writing::Writing;
@@ -21,13 +22,17 @@ ghost use mathlib.Core.List.{[]};
 ghost use Prim.Native.Nat.{_+_, _*_, _^_, _≤_, _<_};
 ghost use lib.ListN.{length, drop};
 ghost use Rattle.octets.specs.Splice.{stored};
+ghost use Rattle.answers.specs.Numbers.{mostOctets, mostColumns};
 ghost use Rattle.answers.specs.declared.Verdict.the-variants.{Clear};
+ghost use Rattle.book.specs.Rows.{rowsOctets};
 ghost use Rattle.book.specs.Book.{bookOctets};
+ghost use Rattle.framing.specs.Frame.{finishOctets};
+ghost use Rattle.begin.specs.Begin.{startSize};
 ghost use Rattle.sheet.specs.Field.{mostChosen, codesOf};
 ghost use Rattle.sheet.specs.One.{Exported};
-ghost use Rattle.importing.specs.Tied.{Taken};
+ghost use Rattle.importing.specs.Tied.{Taken, rowsOf};
 ghost use Rattle.importing.specs.From.{askedAt, fromAnswer, fromOctets};
-ghost use Rattle.importing.specs.Steps.{codesFor, givenAt, restBook, restAnswer, restOctets, closedBy};
+ghost use Rattle.importing.specs.Steps.{codesFor, recordsAt, givenAt, restBook, restAnswer, restOctets, frontPut, laidDown, closedBy};
 
 // The code of each tag's type, 0 behind the last.
 fn codes_of(tags: &[u32]) -> [u32; 16]
@@ -60,7 +65,42 @@ fn judge_asked(tags: &[u32], codes: &[u32], flags: &[u32], width: usize, s: &[u8
     }
 }
 
-// What the writer's calls answer, n octets being lent: begin, the header record, the lines, the finish.
+// The header record as it is offered, then what the writer's calls answer to it, to the lines and to the finish: w
+// octets are written, n lent.
+fn judge_records(
+    forms: &[u8],
+    codes: &[u32],
+    flags: &[u32],
+    offered: &[u8],
+    s: &[u8],
+    w: usize,
+    n: usize,
+) -> Verdict
+    requires { ⌜ (length (now forms) ≤ mostColumns) × (w ≤ mostOctets) × (length (now codes) ≤ mostChosen)
+        × Taken (now codes) (now s) × Exported (now codes) ⌝ }
+    ensures { λ r. ⌜ r ≡ recordsAt (now (forms .entry)) (now (codes .entry)) (now (flags .entry))
+        (now (offered .entry)) (now (s .entry)) w n ⌝ }
+{
+    let v = judge_offered(offered, forms, &flags[0..0]);
+    let Verdict::Clear = v else {
+        return v;
+    };
+    let v = judge_head(offered, forms, w, n);
+    let Verdict::Clear = v else {
+        return v;
+    };
+    judge_lines(s, codes, flags, w + offered.len(), n)
+}
+
+// The octets that begin writes for tables of so many columns.
+fn start_size(h: usize, a: usize) -> usize
+    requires { ⌜ (h ≤ mostColumns) × (a ≤ mostColumns) ⌝ }
+    ensures { λ r. ⌜ (r ≡ startSize h a) × (r ≤ 2072) ⌝ }
+{
+    24 + 8 * (h + a)
+}
+
+// What the writer's calls answer, n octets being lent: begin, then the records.
 fn judge_given(
     tags: &[u32],
     codes: &[u32],
@@ -71,8 +111,8 @@ fn judge_given(
     s: &[u8],
     n: usize,
 ) -> Verdict
-    requires { ⌜ (now codes ≡ codesOf (now tags)) × (length (now tags) ≤ mostChosen)
-        × Taken (codesOf (now tags)) (now s) × Exported (codesOf (now tags)) ⌝ }
+    requires { ⌜ (now codes ≡ codesOf (now tags)) × (length (now codes) ≤ mostChosen) × Taken (now codes) (now s)
+        × Exported (now codes) ⌝ }
     ensures { λ r. ⌜ r ≡ givenAt (now (tags .entry)) (now (flags .entry)) (now (htags .entry)) (now (hflags .entry))
         (now (offered .entry)) (now (s .entry)) n ⌝ }
 {
@@ -82,16 +122,8 @@ fn judge_given(
     };
     let h = htags.len();
     let forms = forms_of(htags);
-    let v = judge_offered(offered, &forms[0..h], &flags[0..0]);
-    let Verdict::Clear = v else {
-        return v;
-    };
-    let w = 24 + 8 * (h + tags.len());
-    let v = judge_head(offered, &forms[0..h], w, n);
-    let Verdict::Clear = v else {
-        return v;
-    };
-    judge_lines(s, codes, flags, w + offered.len(), n)
+    let w = start_size(h, tags.len());
+    judge_records(&forms[0..h], codes, flags, offered, s, w, n)
 }
 
 // The state of a writing whose records are all closed.
@@ -111,6 +143,59 @@ fn closed(written: usize, header: usize, address: usize, opened: usize) -> Writi
     }
 }
 
+// The tables and the header record, one behind the other; where they end.
+fn put_front(tags: &[u32], flags: &[u32], htags: &[u32], hflags: &[u32], offered: &[u8], out: &mut [u8]) -> usize
+    requires { ⌜ (length (now htags) ≤ mostColumns) × (length (now tags) ≤ mostColumns)
+        × (startSize (length (now htags)) (length (now tags)) + length (now offered) ≤ length (now out)) ⌝ }
+    ensures { λ r. ⌜ (r ≡ startSize (length (now (htags .entry))) (length (now (tags .entry)))
+        + length (now (offered .entry)))
+        × (now (out .exit) ≡ frontPut (now (tags .entry)) (now (flags .entry)) (now (htags .entry))
+        (now (hflags .entry)) (now (offered .entry)) (now (out .entry))) ⌝ }
+{
+    let w = start_size(htags.len(), tags.len());
+    let end = w + offered.len();
+    begin::begin(begin::no_writing(), htags, hflags, tags, flags, out);
+    octets::copy(out, w, offered);
+    end
+}
+
+// Tables, header record and records, one behind the other.
+fn lay_down(
+    tags: &[u32],
+    codes: &[u32],
+    flags: &[u32],
+    htags: &[u32],
+    hflags: &[u32],
+    offered: &[u8],
+    s: &[u8],
+    out: &mut [u8],
+) -> Records
+    requires { ⌜ (length (now htags) ≤ mostColumns) × (length (now tags) ≤ mostColumns)
+        × (length (now codes) ≤ mostChosen) × Taken (now codes) (now s)
+        × (startSize (length (now htags)) (length (now tags)) + length (now offered) ≤ length (now out))
+        × (startSize (length (now htags)) (length (now tags)) + length (now offered)
+        + length (rowsOctets (rowsOf (now codes) (now s))) ≤ length (now out)) ⌝ }
+    ensures { λ r. ⌜ (r .written ≡ startSize (length (now (htags .entry))) (length (now (tags .entry)))
+        + length (now (offered .entry)) + length (rowsOctets (rowsOf (now (codes .entry)) (now (s .entry)))))
+        × (r .count ≡ length (rowsOf (now (codes .entry)) (now (s .entry))))
+        × (now (out .exit) ≡ laidDown (now (tags .entry)) (now (codes .entry)) (now (flags .entry))
+        (now (htags .entry)) (now (hflags .entry)) (now (offered .entry)) (now (s .entry)) (now (out .entry))) ⌝ }
+{
+    let w = put_front(tags, flags, htags, hflags, offered, out);
+    put_lines(out, w, s, codes)
+}
+
+// The finish of a writing whose records are all closed; how many octets are written.
+fn finish_book(written: usize, header: usize, address: usize, count: usize, out: &mut [u8]) -> usize
+    requires { ⌜ count + 1 < 2 ^ 64 ⌝ }
+    ensures { λ r. ⌜ (r ≡ written) × (now (out .exit) ≡ finishOctets (closedBy written header address (count + 1))
+        (now (out .entry))) ⌝ }
+{
+    let st = closed(written, header, address, count + 1);
+    framing::finish(st, out);
+    written
+}
+
 // The book, where nothing is refused; how long it is.
 fn write_book(
     tags: &[u32],
@@ -122,8 +207,8 @@ fn write_book(
     s: &[u8],
     out: &mut [u8],
 ) -> usize
-    requires { ⌜ (now codes ≡ codesOf (now tags)) × (length (now tags) ≤ mostChosen)
-        × Taken (codesOf (now tags)) (now s) × Exported (codesOf (now tags))
+    requires { ⌜ (now codes ≡ codesOf (now tags)) × (length (now codes) ≤ mostChosen) × Taken (now codes) (now s)
+        × Exported (now codes)
         × (givenAt (now tags) (now flags) (now htags) (now hflags) (now offered) (now s) (length (now out)) ≡ Clear) ⌝ }
     ensures { λ r. ⌜ (r ≡ length (bookOctets (restBook (now (tags .entry)) (now (flags .entry)) (now (htags .entry))
         (now (hflags .entry)) (now (offered .entry)) (now (s .entry)))))
@@ -131,15 +216,14 @@ fn write_book(
         (now (flags .entry)) (now (htags .entry)) (now (hflags .entry)) (now (offered .entry))
         (now (s .entry))))) ⌝ }
 {
-    begin::begin(begin::no_writing(), htags, hflags, tags, flags, out);
-    let h = htags.len();
-    let a = tags.len();
-    let w = 24 + 8 * (h + a);
-    octets::copy(out, w, offered);
-    let records = put_lines(out, w + offered.len(), s, codes);
-    let st = closed(records.written, h, a, records.count + 1);
-    framing::finish(st, out);
-    records.written
+    let records = lay_down(tags, codes, flags, htags, hflags, offered, s, out);
+    finish_book(
+        records.written,
+        htags.len(),
+        tags.len(),
+        records.count,
+        out,
+    )
 }
 
 // Behind the first line: `s` are the lines, which stand at `width`, of these tags.
