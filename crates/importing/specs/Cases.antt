@@ -19,7 +19,7 @@ use Rattle.answers.specs.Padded.{padded, padded-long}
 use Rattle.answers.specs.declared.Refusal.{Refusal}
 use Rattle.answers.specs.declared.Verdict.{Verdict}
 use Rattle.answers.specs.declared.Verdict.the-variants.{Clear as clear, Refused}
-use Rattle.answers.specs.Verdict.{refused, _then_, need, apart, unmet, no-clear}
+use Rattle.answers.specs.Verdict.{refused, _then_, need, apart, unmet, no-clear, kept}
 use Rattle.answers.specs.declared.Walk.{Walk}
 use Rattle.answers.specs.declared.Walk.the-variants.{Ends, Broken}
 use Rattle.answers.specs.declared.Made.{Made}
@@ -41,16 +41,19 @@ use Rattle.sheet.specs.Field.{mostChosen, allExported, codesOf}
 use Rattle.sheet.specs.One.{Exported, exported-each}
 use Rattle.scanning.specs.Scan.{fits, held, scanIn}
 use Rattle.scanning.specs.Exact.{text-sound}
+use Rattle.scanning.specs.declared.FirstLine.{FirstLine}
+use Rattle.scanning.specs.First.{Headed, tagsTo, fault, headIn, firstLineOf}
+use Rattle.scanning.specs.FirstSound.{first-sound, head-small}
 use Rattle.importing.specs.Given.{recordGiven, rowsGiven}
 use Rattle.importing.specs.Head.{offeredIn, formsFor, headGiven}
 use Rattle.importing.specs.HeadCases.{forms-many}
 use Rattle.importing.specs.LinesCases.{slotsBy, linesGiven, recordsPut}
-use Rattle.importing.specs.From.{linesAt, askedAt, bookWith, callsAt}
-use Rattle.importing.specs.Steps.{codesFor, restBook, recordsAt, givenAt, restAt, restAnswer, restOctets, frontPut, laidDown, closedBy}
+use Rattle.importing.specs.From.{linesAt, askedAt, bookWith, bookFor, callsAt, fromAt, fromAnswer, fromOctets}
+use Rattle.importing.specs.Steps.{codesFor, restBook, recordsAt, givenAt, givenAnswer, givenOctets, asksFirst, restAnswer, restOctets, frontPut, laidDown, closedBy}
 use Rattle.importing.specs.declared.lines.Records.{Records}
 use Rattle.importing.specs.Wrote.{tags-from, Granted, granted, book-long, book-octets}
 use Rattle.importing.specs.Wrote.{head-slots, row-slots, HeadIs, offered-is, offered-long, head-given}
-use Rattle.importing.specs.Tied.{Taken, rowsOf, scan-within}
+use Rattle.importing.specs.Tied.{Taken, rowsOf, scan-within, rows-behind}
 
 -- ---- the codes
 
@@ -407,3 +410,204 @@ pub finish-as : (st : Writing) (w h a k : ℕ) (d new : List ℕ) → new ≡ fi
 finish-as st w h a k d new e q = e ∙ ap (λ (x : Writing). finishOctets x d) q
 
 pub ruleset finishCases = (finish-kept, finish-as)
+
+-- ---- given, then written
+
+module _ (tags flags ht hf hrec s d : List ℕ) (u : Verdict) (ue : u ≡ givenAt tags flags ht hf hrec s (length d)) where
+  module _ (r : Refusal) (y : u ≡ Refused r) where
+    pub give-refused : made.Refused r ≡ givenAnswer tags flags ht hf hrec s d
+    unfolding givenAnswer
+    give-refused = rw (← ue, y)
+
+    pub give-left : d ≡ givenOctets tags flags ht hf hrec s d
+    unfolding givenOctets
+    give-left = rw (← ue, y)
+
+  module _ (y : u ≡ clear) where
+    pub give-clear : givenAt tags flags ht hf hrec s (length d) ≡ clear
+    give-clear = sym ue ∙ y
+
+    pub give-done : (n : ℕ) → n ≡ length (bookOctets (restBook tags flags ht hf hrec s))
+        → made.Done n ≡ givenAnswer tags flags ht hf hrec s d
+    unfolding givenAnswer
+    give-done n q = rw (← ue, y, q)
+
+    pub give-written : (new : List ℕ) → new ≡ stored d 0 (bookOctets (restBook tags flags ht hf hrec s))
+        → new ≡ givenOctets tags flags ht hf hrec s d
+    unfolding givenOctets
+    give-written new q = q ∙ rw (← ue, y)
+
+pub ruleset giveCases = (give-refused, give-left, give-clear, give-done, give-written)
+
+-- ---- behind the first line
+
+module _ (tags flags ht hf hrec : List ℕ) (width : ℕ) (s d : List ℕ) (v : Verdict)
+    (ve : v ≡ askedAt tags flags width s) where
+  module _ (r : Refusal) (z : v ≡ Refused r) where
+    pub rest-asked : made.Refused r ≡ restAnswer tags flags ht hf hrec width s d
+    unfolding restAnswer
+    rest-asked = rw (← ve, z)
+
+    pub rest-kept : d ≡ restOctets tags flags ht hf hrec width s d
+    unfolding restOctets
+    rest-kept = rw (← ve, z)
+
+  module _ (z : v ≡ clear) where
+    pub rest-answer : (m : Made) → m ≡ givenAnswer tags flags ht hf hrec s d
+        → m ≡ restAnswer tags flags ht hf hrec width s d
+    unfolding restAnswer
+    rest-answer m q = q ∙ rw (← ve, z)
+
+    pub rest-octets : (new : List ℕ) → new ≡ givenOctets tags flags ht hf hrec s d
+        → new ≡ restOctets tags flags ht hf hrec width s d
+    unfolding restOctets
+    rest-octets new q = q ∙ rw (← ve, z)
+
+module _ (tags flags s : List ℕ) (width : ℕ) (v : Verdict) (ve : v ≡ askedAt tags flags width s) (z : v ≡ clear)
+    (codes : List ℕ) (ce : codes ≡ codesFor tags) where
+  asked : Asked tags flags s
+  asked = asked-is tags flags width s (sym ve ∙ z)
+
+  pub rest-taken : Taken (take (length tags - 0) (drop 0 codes)) s
+  rest-taken = rw (codes-front tags codes ce) (asked .taken)
+
+  pub rest-types : Exported (take (length tags - 0) (drop 0 codes))
+  rest-types = rw (codes-front tags codes ce) (asked .types)
+
+pub rest-codes : (tags codes : List ℕ) → codes ≡ codesFor tags → take (length tags - 0) (drop 0 codes) ≡ codesOf tags
+rest-codes tags codes e = codes-front tags codes e
+
+pub rest-few : (tags codes : List ℕ) → codes ≡ codesFor tags → length tags ≤ mostChosen
+    → length (take (length tags - 0) (drop 0 codes)) ≤ mostChosen
+rest-few tags codes e h = let l = ap length (codes-front tags codes e) ∙ codes-long tags in omega arith
+
+pub rest-many : (tags codes : List ℕ) → codes ≡ codesFor tags → length tags ≤ mostChosen → length tags ≤ length codes
+unfolding codesFor
+rest-many tags codes e h =
+    let a = ap length e ∙ length-append (codesOf tags) (replicate (16 - length tags) 0) in
+    let b = codes-long tags in
+    omega arith
+
+pub ruleset restCases = (rest-codes, rest-few, rest-many, rest-taken, rest-types)
+pub ruleset restEnds = (rest-asked, rest-kept, rest-answer, rest-octets)
+
+-- ---- the first line
+
+by-head : {X : Type 0} (text : List ℕ) (first : FirstLine) → first ≡ firstLineOf (headIn text)
+    → ((p : ℕ) → headIn text ≡ fault p → first .walk ≡ Broken p → X)
+    → ((tags : List ℕ) (w : ℕ) → headIn text ≡ tagsTo tags w → first .walk ≡ Ends w
+    → first .tags ≡ tags ++ replicate (16 - length tags) 0 → first .count ≡ length tags → X) → X
+unfolding firstLineOf
+by-head {X} text first e f g = go (headIn text) refl e
+  where
+    go : (h : Headed) → headIn text ≡ h → first ≡ firstLineOf h → X
+    go (tagsTo tags w) q z =
+        g tags w q (ap (λ (x : FirstLine). x .walk) z) (ap (λ (x : FirstLine). x .tags) z)
+        (ap (λ (x : FirstLine). x .count) z)
+    go (fault p) q z = f p q (ap (λ (x : FirstLine). x .walk) z)
+
+unlike-walks : {X : Type 0} {a b : ℕ} → Broken a ≡ Ends b → X
+unlike-walks e = let z : _≡_ {A = ℕ} 0 1 = cc in absurd (omega arith)
+
+module _ (text flags ht hf hrec d : List ℕ) (first : FirstLine) (e : first ≡ firstLineOf (headIn text)) where
+  module _ (p : ℕ) (z : first .walk ≡ Broken p) where
+    fault-is : headIn text ≡ fault p
+    fault-is =
+        by-head text first e (λ q h w. h ∙ ap fault (let y : Broken q ≡ Broken p = sym w ∙ z in cc))
+        (λ tags w h x a b. unlike-walks (sym z ∙ x))
+
+    pub first-refused : made.Refused (record { number = wrongSheet; place = p }) ≡ fromAnswer text flags ht hf hrec d
+    unfolding fromAnswer fromAt
+    first-refused = rw fault-is
+
+    pub first-kept : d ≡ fromOctets text flags ht hf hrec d
+    unfolding fromOctets fromAt
+    first-kept = rw fault-is
+
+  module _ (w : ℕ) (z : first .walk ≡ Ends w) where
+    told : {X : Type 0} → ((tags : List ℕ) → headIn text ≡ tagsTo tags w
+        → first .tags ≡ tags ++ replicate (16 - length tags) 0 → first .count ≡ length tags → X) → X
+    told f =
+        by-head text first e (λ p h q. unlike-walks (sym q ∙ z))
+        (λ tags v h x a b. let y : Ends v ≡ Ends w = sym x ∙ z in let u : v ≡ w = cc in f tags (h ∙ ap (tagsTo tags) u) a b)
+
+    pub first-many : first .count ≤ length (first .tags)
+    first-many =
+        told (λ tags h a b. let l = ap length a ∙ length-append tags (replicate (16 - length tags) 0) in omega arith)
+
+    pub first-within : w ≤ length text
+    first-within =
+        told (λ tags h a b. let f = first-sound text tags w h in
+        let l = ap length (f .reads) ∙ length-append (f .line) (f .rest) in
+        let m = f .width in omega arith)
+
+    tags-are : (tags : List ℕ) → first .tags ≡ tags ++ replicate (16 - length tags) 0 → first .count ≡ length tags
+        → take (first .count - 0) (drop 0 (first .tags)) ≡ tags
+    tags-are tags a b =
+        let y : first .count - 0 ≡ length tags = omega arith in
+        ap₂ (λ (n : ℕ) (l : List ℕ). take n l) y a
+        ∙ take-at tags (replicate (16 - length tags) 0) (length tags) refl
+
+    pub first-few : length (take (first .count - 0) (drop 0 (first .tags))) ≤ mostChosen
+    first-few =
+        told (λ tags h a b. let l = ap length (tags-are tags a b) in
+        let m = head-small text tags w h .1 in omega arith)
+
+    lines-all : take (length text - w) (drop w text) ≡ drop w text
+    lines-all = let l = length-drop w text in take-all (length text - w) (drop w text) (omega arith)
+
+    pub first-fits : length text < 2 ^ 64 → w + length (take (length text - w) (drop w text)) < 2 ^ 64
+    first-fits h =
+        let l = ap length lines-all ∙ length-drop w text in
+        let m = first-within in
+        omega arith
+
+    first-rows : (tags : List ℕ) → headIn text ≡ tagsTo tags w
+        → bookFor text flags ht hf hrec ≡ restBook tags flags ht hf hrec (drop w text)
+    unfolding restBook rowsOf
+    first-rows tags h = rw h (ap (bookWith tags flags ht hf hrec) (rows-behind text tags w h))
+
+    verdict-is : (tags : List ℕ) (n : ℕ) → headIn text ≡ tagsTo tags w → fromAt text flags ht hf hrec n
+        ≡ (askedAt tags flags w (drop w text) then givenAt tags flags ht hf hrec (drop w text) n)
+    unfolding fromAt givenAt
+    verdict-is tags n h = rw (first-rows tags h, h)
+
+    answer-is : (tags : List ℕ) → headIn text ≡ tagsTo tags w
+        → restAnswer tags flags ht hf hrec w (drop w text) d ≡ fromAnswer text flags ht hf hrec d
+    unfolding restAnswer givenAnswer fromAnswer
+    answer-is tags h = rw (verdict-is tags (length d) h, first-rows tags h) (go (askedAt tags flags w (drop w text)))
+      where
+        go : (v : Verdict) → asksFirst v (answered (givenAt tags flags ht hf hrec (drop w text) (length d))
+            (length (bookOctets (restBook tags flags ht hf hrec (drop w text)))))
+            ≡ answered (v then givenAt tags flags ht hf hrec (drop w text) (length d))
+            (length (bookOctets (restBook tags flags ht hf hrec (drop w text))))
+        go clear = refl
+        go (Refused r) = refl
+
+    octets-is : (tags : List ℕ) → headIn text ≡ tagsTo tags w
+        → restOctets tags flags ht hf hrec w (drop w text) d ≡ fromOctets text flags ht hf hrec d
+    unfolding restOctets givenOctets fromOctets
+    octets-is tags h = rw (verdict-is tags (length d) h, first-rows tags h) (go (askedAt tags flags w (drop w text)))
+      where
+        new : List ℕ
+        new = stored d 0 (bookOctets (restBook tags flags ht hf hrec (drop w text)))
+
+        go : (v : Verdict) → kept v d (kept (givenAt tags flags ht hf hrec (drop w text) (length d)) d new)
+            ≡ kept (v then givenAt tags flags ht hf hrec (drop w text) (length d)) d new
+        go clear = refl
+        go (Refused r) = refl
+
+    pub first-answer : (m : Made) → m ≡ restAnswer (take (first .count - 0) (drop 0 (first .tags))) flags ht hf hrec w
+        (take (length text - w) (drop w text)) d → m ≡ fromAnswer text flags ht hf hrec d
+    first-answer m q =
+        told (λ tags h a b. q
+        ∙ ap₂ (λ (x y : List ℕ). restAnswer x flags ht hf hrec w y d) (tags-are tags a b) lines-all ∙ answer-is tags h)
+
+    pub first-octets : (new : List ℕ) → new ≡ restOctets (take (first .count - 0) (drop 0 (first .tags))) flags ht hf
+        hrec w (take (length text - w) (drop w text)) d → new ≡ fromOctets text flags ht hf hrec d
+    first-octets new q =
+        told (λ tags h a b. q
+        ∙ ap₂ (λ (x y : List ℕ). restOctets x flags ht hf hrec w y d) (tags-are tags a b) lines-all ∙ octets-is tags h)
+
+pub ruleset firstCases = (first-refused, first-kept, first-many, first-within, first-few, first-fits)
+pub ruleset firstEnds = (first-answer, first-octets)

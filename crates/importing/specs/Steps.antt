@@ -5,8 +5,10 @@ use mathlib.Core.List.{List, [], _∷_, _++_}
 use lib.ListN.{length, drop, replicate}
 use Rattle.octets.specs.Splice.{splice, stored}
 use Rattle.answers.specs.declared.Verdict.{Verdict}
+use Rattle.answers.specs.declared.Verdict.the-variants.{Clear as clear, Refused}
 use Rattle.answers.specs.Verdict.{_then_, kept}
 use Rattle.answers.specs.declared.Made.{Made}
+use Rattle.answers.specs.declared.Made.the-variants as made
 use Rattle.answers.specs.Made.{answered}
 use Rattle.entry.specs.Slots.{slotsFrom}
 use Rattle.book.specs.Rows.{rowsOctets}
@@ -40,17 +42,26 @@ givenAt tags flags ht hf hrec s n =
     then offeredIn (headSlots (columnsFrom ht hf)) hrec
     then callsAt (restBook tags flags ht hf hrec s) (startSize (length ht) (length tags)) n
 
-unfoldable pub restAt : List ℕ → List ℕ → List ℕ → List ℕ → List ℕ → ℕ → List ℕ → ℕ → Verdict
-restAt tags flags ht hf hrec width s n = askedAt tags flags width s then givenAt tags flags ht hf hrec s n
+unfoldable pub givenAnswer : List ℕ → List ℕ → List ℕ → List ℕ → List ℕ → List ℕ → List ℕ → Made
+givenAnswer tags flags ht hf hrec s d =
+    answered (givenAt tags flags ht hf hrec s (length d)) (length (bookOctets (restBook tags flags ht hf hrec s)))
+
+unfoldable pub givenOctets : List ℕ → List ℕ → List ℕ → List ℕ → List ℕ → List ℕ → List ℕ → List ℕ
+givenOctets tags flags ht hf hrec s d =
+    kept (givenAt tags flags ht hf hrec s (length d)) d (stored d 0 (bookOctets (restBook tags flags ht hf hrec s)))
+
+-- what is asked of the lines comes first
+abbrev pub asksFirst : Verdict → Made → Made
+asksFirst clear m = m
+asksFirst (Refused r) m = made.Refused r
 
 unfoldable pub restAnswer : List ℕ → List ℕ → List ℕ → List ℕ → List ℕ → ℕ → List ℕ → List ℕ → Made
 restAnswer tags flags ht hf hrec width s d =
-    answered (restAt tags flags ht hf hrec width s (length d)) (length (bookOctets (restBook tags flags ht hf hrec s)))
+    asksFirst (askedAt tags flags width s) (givenAnswer tags flags ht hf hrec s d)
 
 unfoldable pub restOctets : List ℕ → List ℕ → List ℕ → List ℕ → List ℕ → ℕ → List ℕ → List ℕ → List ℕ
 restOctets tags flags ht hf hrec width s d =
-    kept (restAt tags flags ht hf hrec width s (length d)) d
-    (stored d 0 (bookOctets (restBook tags flags ht hf hrec s)))
+    kept (askedAt tags flags width s) d (givenOctets tags flags ht hf hrec s d)
 
 -- the tables and the header record, laid down one behind the other
 unfoldable pub frontPut : List ℕ → List ℕ → List ℕ → List ℕ → List ℕ → List ℕ → List ℕ

@@ -21,13 +21,15 @@ use Rattle.whole.specs.Number.{encodeNumber}
 use Rattle.entry.specs.Present.{Row}
 use Rattle.entry.specs.Record.{unlike}
 use Rattle.sheet.specs.Digits.{numberIn}
-use Rattle.sheet.specs.Field.{numbers, truths, quote, lf, isMark, marked, doubled, quoted, endOf}
+use Rattle.sheet.specs.Field.{numbers, truths, codesOf, quote, isMark, marked, doubled, quoted, endOf, tagFields}
 use Rattle.sheet.specs.Marks.{mark-quote, no-mark, doubled-quote, doubled-other}
-use Rattle.sheet.specs.Reading.{contentIn, linesIn, valueFrom, valuesFrom, rowsFrom}
-use Rattle.sheet.specs.Back.{Spells, plainly, inQuotes, content-back}
+use Rattle.sheet.specs.Reading.{contentIn, linesIn, valueFrom, valuesFrom, rowsFrom, rowsIn}
+use Rattle.sheet.specs.Back.{Spells, plainly, inQuotes, content-back, line-read}
 use Rattle.scanning.specs.Scan.{fits, held, scanIn}
 use Rattle.scanning.specs.Sheets.{IsLine, IsText, GoodLine, GoodText, lines-are}
 use Rattle.scanning.specs.Exact.{TextIs, text-taken, text-sound}
+use Rattle.scanning.specs.First.{tagsTo, headIn}
+use Rattle.scanning.specs.FirstSound.{first-sound}
 use Rattle.scanning.specs.Place.{place-is}
 use Rattle.scanning.specs.Unfit.{refused-for}
 use Rattle.importing.specs.Fields.{endsBy, insideBy, fieldLong, fieldIn, fieldBehind, laidFrom, laidRow, lineLong}
@@ -213,3 +215,18 @@ scan-within codes xs p e =
           let z = u .place in
           omega arith
     ]
+
+-- the rows of a sheet are those of the lines behind the first
+pub rows-behind : (text tags : List ℕ) (w : ℕ) → headIn text ≡ tagsTo tags w
+    → rowsIn tags text ≡ rowsFrom (codesOf tags) (linesIn (drop w text))
+unfolding rowsIn linesIn
+rows-behind text tags w e =
+    let f = first-sound text tags w e in
+    let q : text ≡ f .line ++ f .rest = f .reads in
+    let d : drop w text ≡ f .rest =
+    ap₂ (λ (n : ℕ) (xs : List ℕ). drop n xs) (f .width) q ∙ drop-append-seam (f .line) (f .rest) in
+    let l : linesIn text ≡ tagFields tags ∷ linesIn (f .rest) =
+    ap linesIn (q ∙ ap (λ (xs : List ℕ). xs ++ f .rest) (f .first .reads))
+    ∙ line-read (tagFields tags) (f .first .fields) [] (f .rest) (f .first .spelt) in
+    ap (λ (ls : List (List (List ℕ))). rowsFrom (codesOf tags) (drop 1 ls)) l
+    ∙ ap (λ (xs : List ℕ). rowsFrom (codesOf tags) (linesIn xs)) (sym d)

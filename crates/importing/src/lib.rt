@@ -32,7 +32,7 @@ ghost use Rattle.sheet.specs.Field.{mostChosen, codesOf};
 ghost use Rattle.sheet.specs.One.{Exported};
 ghost use Rattle.importing.specs.Tied.{Taken, rowsOf};
 ghost use Rattle.importing.specs.From.{askedAt, fromAnswer, fromOctets};
-ghost use Rattle.importing.specs.Steps.{codesFor, recordsAt, givenAt, restBook, restAnswer, restOctets, frontPut, laidDown, closedBy};
+ghost use Rattle.importing.specs.Steps.{codesFor, recordsAt, givenAt, restBook, givenAnswer, givenOctets, restAnswer, restOctets, frontPut, laidDown, closedBy};
 
 // The code of each tag's type, 0 behind the last.
 fn codes_of(tags: &[u32]) -> [u32; 16]
@@ -226,6 +226,31 @@ fn write_book(
     )
 }
 
+// The book of lines that are a sheet's, where the writer's calls refuse nothing.
+fn give_book(
+    tags: &[u32],
+    codes: &[u32],
+    flags: &[u32],
+    htags: &[u32],
+    hflags: &[u32],
+    offered: &[u8],
+    s: &[u8],
+    out: &mut [u8],
+) -> Made
+    requires { ⌜ (now codes ≡ codesOf (now tags)) × (length (now codes) ≤ mostChosen) × Taken (now codes) (now s)
+        × Exported (now codes) ⌝ }
+    ensures { λ r. ⌜ (r ≡ givenAnswer (now (tags .entry)) (now (flags .entry)) (now (htags .entry))
+        (now (hflags .entry)) (now (offered .entry)) (now (s .entry)) (now (out .entry)))
+        × (now (out .exit) ≡ givenOctets (now (tags .entry)) (now (flags .entry)) (now (htags .entry))
+        (now (hflags .entry)) (now (offered .entry)) (now (s .entry)) (now (out .entry))) ⌝ }
+{
+    let v = judge_given(tags, codes, flags, htags, hflags, offered, s, out.len());
+    if let Verdict::Refused(r) = v {
+        return Made::Refused(r);
+    }
+    Made::Done(write_book(tags, codes, flags, htags, hflags, offered, s, out))
+}
+
 // Behind the first line: `s` are the lines, which stand at `width`, of these tags.
 fn from_lines(
     tags: &[u32],
@@ -249,12 +274,7 @@ fn from_lines(
     if let Verdict::Refused(r) = v {
         return Made::Refused(r);
     }
-    let v = judge_given(tags, &codes[0..k], flags, htags, hflags, offered, s, out.len());
-    if let Verdict::Refused(r) = v {
-        return Made::Refused(r);
-    }
-    let written = write_book(tags, &codes[0..k], flags, htags, hflags, offered, s, out);
-    Made::Done(written)
+    give_book(tags, &codes[0..k], flags, htags, hflags, offered, s, out)
 }
 
 // The book of the sheet `text`, with these column flags, and with this header record of a table of these tags and flags.
