@@ -18,7 +18,7 @@ abbrev pub callsLeave : List Call → Stand → Stand
 callsLeave [] s = s
 callsLeave (c ∷ cs) s = callsLeave cs (after c s)
 
--- so they leave what they leave as calls each of which is lent a buffer
+-- so each is lent the buffer as the last one left it
 pub leave-run : (cs : List Call) (s : Stand) → callsLeave cs s ≡ run (inOne cs s) s
 leave-run [] s = refl
 leave-run (c ∷ cs) s = leave-run cs (after c s)

@@ -32,7 +32,8 @@ use Rattle.drafting.specs.Again.{recordCalls, rowCalls, close-clear}
 use Rattle.importing.specs.Given.{rowPieces, piecesAt, keysIn, recordGiven}
 use Rattle.importing.specs.Fitting.{keys-sound, keys-held}
 use Rattle.imported.specs.Calls.{Answers, answers-one, answers-first, answers-append}
-use Rattle.imported.specs.Value.{front-long, Has, row-brings}
+use Rattle.imported.specs.Value.{front-long}
+use Rattle.imported.specs.Row.{Has, row-brings}
 
 -- the records that are closed, in the one buffer
 abbrev pub Closed : List ℕ → List Column → List Column → List Row → Stand → Type 0

@@ -1,6 +1,6 @@
 -- What a sheet and a header record hold that are taken: rows with values of their columns, keys aside, and a row of the
 -- header table.
-use Prim.Native.Nat.{ℕ, _%_, _<_, _^_}
+use Prim.Native.Nat.{ℕ, _<_, _^_}
 use native.Mathlib.Omega.{arith}
 use mathlib.Core.Path.{_≡_, refl, sym, ap, ap₂, subst, _∙_}
 use mathlib.Core.Bool.{true}
