@@ -23,7 +23,7 @@ use Rattle.framing.specs.Frame.{openSize, keysFrom, openAt, openOutcome, closeA
 use Rattle.drafting.specs.Open.{blankRow}
 use Rattle.drafting.specs.Start.{openColumns}
 use Rattle.drafting.specs.Draft.{Part, openSlots, Between, Inside}
-use Rattle.drafting.specs.Turns.{between-idle, inside-taken, columns-open}
+use Rattle.drafting.specs.Turns.{front-long, between-idle, inside-taken, columns-open}
 use Rattle.drafting.specs.Gives.{fine-whole}
 use Rattle.drafting.specs.Keeps.{slots-open, opening, open-keeps, close-sound, close-keeps}
 use Rattle.drafting.specs.Run.{Call, Open, Close}
@@ -32,7 +32,6 @@ use Rattle.drafting.specs.Again.{recordCalls, rowCalls, close-clear}
 use Rattle.importing.specs.Given.{rowPieces, piecesAt, keysIn, recordGiven}
 use Rattle.importing.specs.Fitting.{keys-sound, keys-held}
 use Rattle.imported.specs.Calls.{Answers, answers-one, answers-first, answers-append}
-use Rattle.imported.specs.Value.{front-long}
 use Rattle.imported.specs.Row.{Has, row-brings}
 
 -- the records that are closed, in the one buffer
@@ -101,7 +100,7 @@ module _ (d₀ : List ℕ) (hs cs : List Column) (rows : List Row) where
         rw (
           between-idle (s .state) (s .octets) d₀ hs cs rows i,
           open-front,
-          front-long (s .state) (s .octets) d₀ _ (i .front),
+          front-long (i .front),
         )
         (ap (λ (m : ℕ). need (ltb m mostOpened) breaksRule 0 then roomAt (s .state .written) (length d₀) front)
         (i .opened))

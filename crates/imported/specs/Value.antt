@@ -21,12 +21,11 @@ use Rattle.writing.specs.State.{withinOf, roomAt, room-in}
 use Rattle.writing.specs.Column.{columnFor}
 use Rattle.writing.specs.declared.Writing.{Writing}
 use Rattle.giving.specs.Give.{Given, formed, octetsFor, leftOf, elementForm, dueForm, giveAt, elementAt}
-use Rattle.drafting.specs.Lists.{written-long}
 use Rattle.drafting.specs.Open.{Blank, openRecord}
 use Rattle.drafting.specs.Spell.{Elements, joined, Spelling}
 use Rattle.drafting.specs.Start.{openColumns, seek-there}
 use Rattle.drafting.specs.Draft.{Part, closedOctets, openSlots, formIn, Front, Inside}
-use Rattle.drafting.specs.Turns.{inside-taken, column-is}
+use Rattle.drafting.specs.Turns.{front-long, inside-taken, column-is}
 use Rattle.drafting.specs.Gives.{giving, set-twice, given-long, added-long, open-form}
 use Rattle.drafting.specs.Run.{Call, Give, Add}
 use Rattle.drafting.specs.Written.{Stand, after, due-form}
@@ -48,9 +47,6 @@ add-verdict : (st : Writing) (d : List ℕ) (v : Given) → withinOf st (length 
     → elementAt st d v ≡ roomAt (st .written) (length d) (length (octetsFor (dueForm st) v))
 unfolding elementAt
 add-verdict st d v w l f = rw (w, ne-eqb (st .left) 0 (λ e. omega arith), f)
-
-pub front-long : (st : Writing) (d d₀ p : List ℕ) → Front st d d₀ p → length d ≡ length d₀
-front-long st d d₀ p f = ap length (f .octets) ∙ written-long p d₀ (f .room)
 
 let-in : (st : Writing) (d d₀ p : List ℕ) (k : ℕ) → Front st d d₀ p → roomAt (st .written) (length d₀) k ≡ clear
     → Room (length p + k) d₀
@@ -111,7 +107,7 @@ module _ (d₀ : List ℕ) (hs cs : List Column) (rows : List Row) where
       due-form st d d₀ (record { heads = hs; cols = cs; rows = rows; part = none }) p i due
       ∙ ap (λ (y : ℕ). elementForm (formIn ss y)) m in
       let e : elementAt st d v ≡ roomAt (st .written) (length d₀) (length w) =
-      rw (o, front-long st d d₀ _ (i .front)) at
+      rw (o, front-long (i .front)) at
       (add-verdict st d v (inside-taken st d d₀ hs cs rows p i) due (rw o (h .1))) in
       answers-first (Add v) (adds vs) (roomAt (st .written) (length d₀) (length w))
       (piecesAt (st .written + length w) (length d₀) (sizes f vs)) (InPart (filled p c (u ++ (w ++ joined f vs)))) s e
@@ -154,7 +150,7 @@ module _ (d₀ : List ℕ) (hs cs : List Column) (rows : List Row) where
       ∙ seek-there (openColumns hs cs k) (open-sound st hs cs k (i .begun)) (p .next) c n b in
       let g : f ≡ formOf (tag % 65536) = open-form hs cs k c b in
       let e : giveAt st d tag (sp .first) ≡ roomAt (st .written) (length d₀) (length u) =
-      rw (← g, front-long st d d₀ _ (i .front)) at (give-verdict st d tag c (sp .first) q (rw g at (sp .formed))) in
+      rw (← g, front-long (i .front)) at (give-verdict st d tag c (sp .first) q (rw g at (sp .formed))) in
       let end : Part = record { row = set (p .row) c (some v); next = c + 1; due = 0 } in
       rw (← pieces-are f v sp)
       (answers-first (Give tag (sp .first)) (adds (sp .rest)) (roomAt (st .written) (length d₀) (length u))
