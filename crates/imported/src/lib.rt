@@ -1,0 +1,1 @@
+// The theory of a book from a sheet: it is the book that the writer's own calls give. No code.
