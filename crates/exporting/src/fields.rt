@@ -1,10 +1,10 @@
 // One field of a sheet, measured and written: the text of a value, of which there are no octets where it is absent.
-use sheet::NUMBERS;
-use sheet::TRUTHS;
 use crate::digits::places;
 use crate::digits::put_digits;
 use crate::strings::put_string;
 use crate::strings::string_size;
+use sheet::NUMBERS;
+use sheet::TRUTHS;
 use whole::Number;
 ghost use mathlib.Core.Path.{_≡_};
 ghost use mathlib.Core.Bool.{cond};

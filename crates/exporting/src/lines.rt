@@ -2,11 +2,11 @@
 use crate::fields::field_size;
 use crate::fields::put_field;
 use crate::fields::put_tag;
+use edges::MOST_EDGES;
+use octets::word32;
 use sheet::COMMA;
 use sheet::CR;
 use sheet::LF;
-use edges::MOST_EDGES;
-use octets::word32;
 ghost use mathlib.Core.Path.{_≡_};
 ghost use mathlib.Core.Bool.{cond};
 ghost use Prim.Native.Nat.{_+_, _*_, _^_, _≤_, _<_};

@@ -6,5 +6,5 @@ ghost use Rattle.face_reading.specs.Version.{version};
 pub extern "C" fn wt_version() -> u32
     ensures { λ r. ⌜ r ≡ version ⌝ }
 {
-    10300
+    10400
 }

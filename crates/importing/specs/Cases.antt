@@ -489,6 +489,7 @@ rest-many tags codes e h =
     omega arith
 
 pub ruleset restCases = (rest-codes, rest-few, rest-many, rest-taken, rest-types)
+
 pub ruleset restEnds = (rest-asked, rest-kept, rest-answer, rest-octets)
 
 -- ---- the first line
@@ -610,4 +611,5 @@ module _ (text flags ht hf hrec d : List ℕ) (first : FirstLine) (e : first ≡
         ∙ ap₂ (λ (x y : List ℕ). restOctets x flags ht hf hrec w y d) (tags-are tags a b) lines-all ∙ octets-is tags h)
 
 pub ruleset firstCases = (first-refused, first-kept, first-many, first-within, first-few, first-fits)
+
 pub ruleset firstEnds = (first-answer, first-octets)

@@ -214,6 +214,7 @@ module _ (f : List ℕ) (t : Bool) (e : t ≡ isQuoted f) where
     first-plain r q = rw (content-plain f (sym e ∙ z)) q
 
 pub ruleset contentCases = (behind-quote, long-quoted, room-quoted, put-quoted, number-quoted, first-quoted)
+
 pub ruleset plainCases = (long-plain, put-plain, number-plain, first-plain)
 
 -- ---- laid down
@@ -454,5 +455,7 @@ module _ (code : ℕ) (t : List ℕ) (k : ℕ) (long : k ≡ length t) where
               ∙ laid d new t (0 ∷ []) at (at + k) z (ap (λ (m : ℕ). at + m) long) (omega arith))
 
 pub ruleset valueLong = (none-long, number-long, truth-long, string-long)
+
 pub ruleset putValue = (none-at, none-put, number-at, number-put, truth-at, truth-room, truth-put, string-at, content-room)
+
 pub ruleset putString = (zero-room, string-put)

@@ -312,6 +312,7 @@ pub values-start : (p forms s : List ℕ) (w n : ℕ)
 values-start p forms s w n = ap (λ (m : ℕ). headFrom forms 0 p m n s) (add-zero w)
 
 pub ruleset valuesGiven = (values-refused, values-next, values-done)
+
 pub ruleset valuesBegun = (values-start)
 
 -- ---- the whole

@@ -168,18 +168,18 @@ module _ (codes flags : List ℕ) (w n opened at : ℕ) (xs : List ℕ) (x : Lin
   record-many h v e q = q ∙ ap noLine e ∙ rw (le-ltb opened mostOpened h)
 
   module _ (h : opened < mostOpened) (k : ℕ) (z : k ≡ room (length codes)) (v : Verdict) (e : v ≡ roomAt w n (4 + k))
-      where
-    pub record-refused : (r : Refusal) → v ≡ Refused r → x ≡ noLine v → x ≡ recordFrom codes flags w n opened at xs
-    unfolding recordFrom
-    record-refused r y q = q ∙ rw (lt-ltb opened mostOpened h, ← z, ← e, y)
+    where
+      pub record-refused : (r : Refusal) → v ≡ Refused r → x ≡ noLine v → x ≡ recordFrom codes flags w n opened at xs
+      unfolding recordFrom
+      record-refused r y q = q ∙ rw (lt-ltb opened mostOpened h, ← z, ← e, y)
 
-    pub record-opened : v ≡ clear → x ≡ lineFrom codes flags true (w + (4 + k)) n at xs
-        → x ≡ recordFrom codes flags w n opened at xs
-    unfolding recordFrom
-    record-opened y q = q ∙ rw (lt-ltb opened mostOpened h, ← z, ← e, y)
+      pub record-opened : v ≡ clear → x ≡ lineFrom codes flags true (w + (4 + k)) n at xs
+          → x ≡ recordFrom codes flags w n opened at xs
+      unfolding recordFrom
+      record-opened y q = q ∙ rw (lt-ltb opened mostOpened h, ← z, ← e, y)
 
-    pub record-fits : v ≡ clear → Fits w64 (w + (4 + k))
-    record-fits y = let r = room-in w n (4 + k) (sym e ∙ y) .limit in omega arith
+      pub record-fits : v ≡ clear → Fits w64 (w + (4 + k))
+      record-fits y = let r = room-in w n (4 + k) (sym e ∙ y) .limit in omega arith
 
 pub ruleset recordJudged = (record-many, record-refused, record-opened, record-fits)
 

@@ -144,7 +144,14 @@ fn closed(written: usize, header: usize, address: usize, opened: usize) -> Writi
 }
 
 // The tables and the header record, one behind the other; where they end.
-fn put_front(tags: &[u32], flags: &[u32], htags: &[u32], hflags: &[u32], offered: &[u8], out: &mut [u8]) -> usize
+fn put_front(
+    tags: &[u32],
+    flags: &[u32],
+    htags: &[u32],
+    hflags: &[u32],
+    offered: &[u8],
+    out: &mut [u8],
+) -> usize
     requires { ⌜ (length (now htags) ≤ mostColumns) × (length (now tags) ≤ mostColumns)
         × (startSize (length (now htags)) (length (now tags)) + length (now offered) ≤ length (now out)) ⌝ }
     ensures { λ r. ⌜ (r ≡ startSize (length (now (htags .entry))) (length (now (tags .entry)))
@@ -217,13 +224,7 @@ fn write_book(
         (now (s .entry))))) ⌝ }
 {
     let records = lay_down(tags, codes, flags, htags, hflags, offered, s, out);
-    finish_book(
-        records.written,
-        htags.len(),
-        tags.len(),
-        records.count,
-        out,
-    )
+    finish_book(records.written, htags.len(), tags.len(), records.count, out)
 }
 
 // The book of lines that are a sheet's, where the writer's calls refuse nothing.

@@ -1,5 +1,6 @@
-// Answers each case of a stream with the sheet of a book: a line for each. The first octet of a case says what it is: 0
-// a new book, 1 tags of which the sheet's length is asked, 2 a room and tags, and the sheet is written there.
+// Answers each case of a stream with the sheet of a book or the book of a sheet: a line for each. The first octet of a
+// case says what it is: 0 a new book, 1 tags of which the sheet's length is asked, 2 a room and tags, and the sheet is
+// written there, 3 a room, column flags, a header table and record and a text, and the book is written there.
 // tests/make.py has the lines' form.
 use answers::Made;
 use answers::Refusal;
@@ -12,11 +13,8 @@ use lines::put;
 use lines::words;
 use octets::octet;
 use octets::word32;
-ghost use Prim.Native.Nat.{_≤_};
+ghost use Prim.Native.Nat.{_≤_, _<_};
 ghost use lib.ListN.{length};
-
-// No case has more tags.
-const MOST_TAGS: usize = 63;
 
 // ---- lines
 
@@ -38,31 +36,40 @@ fn made(answer: Made, out: &mut [u8; 4096], at: usize) -> usize {
 
 // ---- what is asked
 
-// The tags of a case from `from` on.
-fn read_tags(case: &[u8], from: usize) -> [u32; MOST_TAGS]
-    requires { ⌜ from ≤ 5 ⌝ }
+// No case has more tags or flags.
+const MOST_WORDS: usize = 192;
+
+// Words of a case from `from` on, `n` of them and zeros behind.
+fn read_words(case: &[u8], from: usize, n: usize) -> [u32; MOST_WORDS]
+    requires { ⌜ (from ≤ 2000) × (n ≤ 192) ⌝ }
 {
-    let mut tags = [0u32; MOST_TAGS];
+    let mut found = [0u32; MOST_WORDS];
     let mut i = 0;
-    while i < MOST_TAGS {
-        tags[i] = word32(case, from + 4 * i);
+    while i < n {
+        found[i] = word32(case, from + 4 * i);
         i += 1;
     }
-    tags
+    found
 }
 
-// How many there are.
+fn within(n: usize) -> usize
+    ensures { λ r. ⌜ r ≤ 192 ⌝ }
+{
+    if MOST_WORDS < n {
+        return 0;
+    }
+    n
+}
+
+// How many tags a case has from `from` on.
 fn tag_count(case: &[u8], from: usize) -> usize
-    ensures { λ r. ⌜ r ≤ 63 ⌝ }
+    ensures { λ r. ⌜ r ≤ 192 ⌝ }
 {
     if case.len() < from {
         return 0;
     }
     let k = (case.len() - from) / 4;
-    if MOST_TAGS < k {
-        return 0;
-    }
-    k
+    within(k)
 }
 
 fn fill(buf: &mut [u8]) {
@@ -74,8 +81,8 @@ fn fill(buf: &mut [u8]) {
 }
 
 fn length_of(book: &[u8], case: &[u8], out: &mut [u8; 4096], at: usize) -> usize {
-    let tags = read_tags(case, 1);
     let k = tag_count(case, 1);
+    let tags = read_words(case, 1, k);
     made(exporting::sheet_length(book, &tags[0..k]), out, at)
 }
 
@@ -85,13 +92,85 @@ fn sheet_of(book: &[u8], case: &[u8], buf: &mut [u8], out: &mut [u8; 4096], at: 
     if buf.len() < room {
         return at;
     }
-    let tags = read_tags(case, 5);
     let k = tag_count(case, 5);
+    let tags = read_words(case, 5, k);
     fill(buf);
     let answer = exporting::export(book, &tags[0..k], &mut buf[0..room]);
     let at = made(answer, out, at);
     let at = put(out, at, b' ');
     hex(out, at, &buf[0..room])
+}
+
+// ---- a book from a sheet
+
+// The counts of header tags, header flags and flags, and of the octets of the header record.
+struct Counts {
+    htags: usize,
+    hflags: usize,
+    flags: usize,
+    offered: usize,
+}
+
+fn counts_in(case: &[u8]) -> Counts
+    ensures { λ r. ⌜ (r .htags ≤ 192) × (r .hflags ≤ 192) × (r .flags ≤ 192) × (r .offered < 65536) ⌝ }
+{
+    Counts {
+        htags: within(word32(case, 5) as usize),
+        hflags: within(word32(case, 9) as usize),
+        flags: within(word32(case, 13) as usize),
+        offered: (word32(case, 17) % 65536) as usize,
+    }
+}
+
+// The book, written in the first `room` octets, which are A5; and all of them.
+fn write_there(
+    text: &[u8],
+    flags: &[u32],
+    htags: &[u32],
+    hflags: &[u32],
+    offered: &[u8],
+    buf: &mut [u8],
+    room: usize,
+    out: &mut [u8; 4096],
+    at: usize,
+) -> usize {
+    if buf.len() < room {
+        return at;
+    }
+    fill(buf);
+    let answer = importing::from_sheet(text, flags, htags, hflags, offered, &mut buf[0..room]);
+    let at = made(answer, out, at);
+    let at = put(out, at, b' ');
+    hex(out, at, &buf[0..room])
+}
+
+fn book_of(case: &[u8], buf: &mut [u8], out: &mut [u8; 4096], at: usize) -> usize {
+    let room = word32(case, 1) as usize;
+    let n = counts_in(case);
+    let hflags_at = 21 + 4 * n.htags;
+    let flags_at = hflags_at + 4 * n.hflags;
+    let from = flags_at + 4 * n.flags;
+    let text = from + n.offered;
+    if case.len() < text {
+        return at;
+    }
+    let htags = read_words(case, 21, n.htags);
+    let hflags = read_words(case, hflags_at, n.hflags);
+    let flags = read_words(case, flags_at, n.flags);
+    let h = n.htags;
+    let g = n.hflags;
+    let f = n.flags;
+    write_there(
+        &case[text..],
+        &flags[0..f],
+        &htags[0..h],
+        &hflags[0..g],
+        &case[from..text],
+        buf,
+        room,
+        out,
+        at,
+    )
 }
 
 // ---- the stream
@@ -143,7 +222,11 @@ fn one_case(
         let at = length_of(&book[0..n], &case[0..long], out, lent.at);
         return Lent { book: n, at };
     }
-    let at = sheet_of(&book[0..n], &case[0..long], buf, out, lent.at);
+    if what == 2 {
+        let at = sheet_of(&book[0..n], &case[0..long], buf, out, lent.at);
+        return Lent { book: n, at };
+    }
+    let at = book_of(&case[0..long], buf, out, lent.at);
     Lent { book: n, at }
 }
 

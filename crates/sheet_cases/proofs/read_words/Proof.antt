@@ -2,18 +2,17 @@ use lib.ListN.{length}
 use mathlib.Core.Path.{_≡_}
 use Prim.Native.Nat.{_-_, _≤_}
 use borrow.Author.Needs.{needs}
-use Rattle.sheet_cases.proofs.read_tags.Statement.{statement}
-use Rattle.sheet_cases.proofs.read_tags.Tie as tie
-use Rattle.sheet_cases.proofs.read_tags.Reads as reads
-use Rattle.sheet_cases.proofs.read_tags.Lts as lts
+use Rattle.sheet_cases.proofs.read_words.Statement.{statement}
+use Rattle.sheet_cases.proofs.read_words.Tie as tie
+use Rattle.sheet_cases.proofs.read_words.Reads as reads
+use Rattle.sheet_cases.proofs.read_words.Lts as lts
 use Rattle.octets.proofs.word32.Reads as word32-reads
 
 abbrev Inv-loop : tie.InvT-loop
-Inv-loop case from tags₀ i₀ tags i =
-    (i ≤ 63) × (length tags ≡ 63)
+Inv-loop case from n found₀ i₀ found i = (i ≤ n) × (length found ≡ 192)
 
 abbrev μ-loop : tie.MeasureT-loop
-μ-loop case from tags₀ i₀ tags i = 63 - i
+μ-loop case from n found₀ i₀ found i = n - i
 
 loop-holds : tie.Need-loop-holds Inv-loop μ-loop
 loop-holds c = search needs
@@ -27,11 +26,11 @@ add-word32 c = search needs
 word32-requires : tie.Need-word32-requires Inv-loop μ-loop
 word32-requires c κs = search needs
 
-mul-tags : tie.Need-mul-tags Inv-loop μ-loop
-mul-tags c = search needs
+mul-found : tie.Need-mul-found Inv-loop μ-loop
+mul-found c = search needs
 
-array-write-tags : tie.Need-array-write-tags Inv-loop μ-loop
-array-write-tags c = search needs
+array-write-found : tie.Need-array-write-found Inv-loop μ-loop
+array-write-found c = search needs
 
 add-i : tie.Need-add-i Inv-loop μ-loop
 add-i c = search needs
@@ -45,8 +44,8 @@ loop-again c = search needs
 returns : tie.Need-returns Inv-loop μ-loop
 returns c = search needs
 
-pub read-tags-spec : {M : Type 1} → statement M
-read-tags-spec =
+pub read-words-spec : {M : Type 1} → statement M
+read-words-spec =
     tie.close
     (tie.spec
     Inv-loop
@@ -55,8 +54,8 @@ read-tags-spec =
     mul-word32
     add-word32
     word32-requires
-    mul-tags
-    array-write-tags
+    mul-found
+    array-write-found
     add-i
     loop-less
     loop-again
