@@ -145,7 +145,7 @@ freed-length [] (e ∷ es) h = absurd h
 freed-length (s ∷ ss) [] h = absurd h
 freed-length (s ∷ ss) (e ∷ es) h = ap suc (freed-length ss es (h .1))
 
-row-parts : (ss : List Slot) (es : Row) → SoundRow (freed ss) es
+pub row-parts : (ss : List Slot) (es : Row) → SoundRow (freed ss) es
     → length (rowOctets es) ≡ 4 + room (length ss) + sum (rowPieces ss es)
 row-parts ss es h =
     let a = row-length es in

@@ -85,7 +85,7 @@ free-by : (codes flags : List ℕ) → freed (slotsBy codes flags) ≡ freeSlots
 free-by [] flags = refl
 free-by (c ∷ cs) flags = ap (λ (l : List Slot). freeSlot c ∷ l) (free-by cs (drop 1 flags))
 
-free-rows : (codes flags : List ℕ) (rows : List Row) → SoundChoice codes rows → FreeRows (slotsBy codes flags) rows
+pub free-rows : (codes flags : List ℕ) (rows : List Row) → SoundChoice codes rows → FreeRows (slotsBy codes flags) rows
 free-rows codes flags [] h = tt
 free-rows codes flags (es ∷ rows) h = (rw (free-by codes flags) (h .0), free-rows codes flags rows (h .1))
 
