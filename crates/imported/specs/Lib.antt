@@ -4,5 +4,6 @@ pub mod Value
 pub mod Row
 pub mod Record
 pub mod Rows
-pub mod Taken
 pub mod Told
+pub mod Room
+pub mod Returns

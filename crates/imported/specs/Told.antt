@@ -11,6 +11,8 @@ use Rattle.entry.specs.Record.{SoundRow}
 use Rattle.book.specs.Book.{Book, headSlots, rowSlots}
 use Rattle.begin.specs.Begin.{beginAt, columnsFrom}
 use Rattle.begin.specs.Taken.{Tags}
+use Rattle.sheet.specs.Field.{codesOf}
+use Rattle.sheet.specs.Reading.{linesIn, rowsFrom}
 use Rattle.scanning.specs.First.{Words, Headed, tagsTo, fault, headIn}
 use Rattle.scanning.specs.FirstSound.{head-small}
 use Rattle.drafting.specs.Draft.{Between}
@@ -20,9 +22,11 @@ use Rattle.importing.specs.Head.{offeredIn}
 use Rattle.importing.specs.From.{firstAt, tagsBy, widthBy, tagsIn, linesBehind, askedAt, bookWith, bookFor}
 use Rattle.importing.specs.From.{fromAt, fromOctets}
 use Rattle.importing.specs.Fitting.{FreeRows}
+use Rattle.importing.specs.Tied.{rowsOf, rows-behind}
+use Rattle.importing.specs.Wrote.{row-slots, free-rows, lines-sound, offered-is}
+use Rattle.importing.specs.Cases.{asked-is}
 use Rattle.imported.specs.Calls.{writtenVerdict, writtenOctets}
 use Rattle.imported.specs.Rows.{bookCalls, calls-given, calls-write}
-use Rattle.imported.specs.Taken.{rows-behind, asked-rows, offered-row}
 
 first-is : (x : Headed) → firstAt x ≡ clear → x ≡ tagsTo (tagsBy x) (widthBy x)
 first-is (tagsTo tags w) e = refl
@@ -31,6 +35,16 @@ first-is (fault p) e = no-clear e
 words-tags : (ts : List ℕ) → Words ts → Tags ts
 words-tags [] h = tt
 words-tags (t ∷ ts) h = (h .0, words-tags ts (h .1))
+
+-- the rows of lines that are taken have values of their columns, keys aside
+asked-rows : (tags flags : List ℕ) (w : ℕ) (lines : List ℕ) → Octets lines → askedAt tags flags w lines ≡ clear
+    → FreeRows (rowSlots (columnsFrom tags flags)) (rowsFrom (codesOf tags) (linesIn lines))
+unfolding rowsOf
+asked-rows tags flags w lines o e =
+    let a = asked-is tags flags w lines e in
+    rw (row-slots tags flags (a .many))
+    (free-rows (codesOf tags) flags (rowsOf (codesOf tags) lines)
+    (lines-sound (codesOf tags) lines (a .taken) (a .types) o))
 
 module _ (text flags ht hf hrec d : List ℕ) where
   abbrev book : Book
@@ -60,7 +74,7 @@ module _ (text flags ht hf hrec d : List ℕ) where
 
     head-sound : SoundRow (headSlots (book .heads)) (book .head)
     unfolding bookWith
-    head-sound = offered-row (headSlots (columnsFrom ht hf)) hrec oh offered
+    head-sound = offered-is (headSlots (columnsFrom ht hf)) hrec oh offered .sound
 
     rows-free : FreeRows (rowSlots (book .cols)) (book .rows)
     unfolding bookWith

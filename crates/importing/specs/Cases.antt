@@ -1,5 +1,5 @@
 -- The ways of the code of the call, on plain values.
-use Prim.Native.Nat.{ℕ, zero, suc, _+_, _-_, _*_, _%_, _^_, _≤_, _<_}
+use Prim.Native.Nat.{ℕ, suc, _+_, _-_, _*_, _%_, _^_, _≤_, _<_}
 use native.Mathlib.Nat.{zero-add}
 use native.Mathlib.Omega.{arith}
 use native.Mathlib.Numerals.{add-one}
@@ -12,7 +12,7 @@ use lib.Seq.{set-at, take-suc, take-at, take-all, length-take-le, append-snoc}
 use mir.Syntax.{w8, w32, w64}
 use mir.Val.{Fits}
 use borrow.Author.Tests.{eq-eqb, ne-eqb, not-true, not-false, eqb-true}
-use Rattle.octets.specs.Octets.{Octets, octets-from}
+use Rattle.octets.specs.Octets.{octets-from}
 use Rattle.octets.specs.Splice.{splice, stored, length-splice, length-stored}
 use Rattle.answers.specs.Numbers.{outOfTurn, breaksRule, breaksForm, wrongSheet, mostOctets, mostColumns}
 use Rattle.answers.specs.Padded.{padded, padded-long}
@@ -26,13 +26,13 @@ use Rattle.answers.specs.declared.Made.{Made}
 use Rattle.answers.specs.declared.Made.the-variants as made
 use Rattle.answers.specs.Made.{answered}
 use Rattle.presence.specs.Presence.{room}
-use Rattle.entry.specs.Record.{Slot, rowOctets}
+use Rattle.entry.specs.Record.{rowOctets}
 use Rattle.entry.specs.Slots.{slotsFrom, slots-many}
 use Rattle.entry.specs.Read.{rowIn}
 use Rattle.entry.specs.Present.{Row}
 use Rattle.book.specs.Rows.{rowsOctets}
-use Rattle.book.specs.Book.{bookOctets, headSlots, rowSlots}
-use Rattle.begin.specs.Begin.{startSize, beginAt, beginOctets, columnsFrom}
+use Rattle.book.specs.Book.{bookOctets}
+use Rattle.begin.specs.Begin.{startSize, beginAt, beginOctets}
 use Rattle.begin.specs.Cases.{Begins, begin-in}
 use Rattle.writing.specs.declared.Writing.{Writing}
 use Rattle.framing.specs.Frame.{finishOctets}
@@ -49,7 +49,8 @@ use Rattle.importing.specs.Head.{offeredIn, formsFor, headGiven}
 use Rattle.importing.specs.HeadCases.{forms-many}
 use Rattle.importing.specs.LinesCases.{slotsBy, linesGiven, recordsPut}
 use Rattle.importing.specs.From.{linesAt, askedAt, bookWith, bookFor, callsAt, fromAt, fromAnswer, fromOctets}
-use Rattle.importing.specs.Steps.{codesFor, restBook, recordsAt, givenAt, givenAnswer, givenOctets, asksFirst, restAnswer, restOctets, frontPut, laidDown, closedBy}
+use Rattle.importing.specs.Steps.{codesFor, restBook, recordsAt, givenAt, givenAnswer, givenOctets, asksFirst}
+use Rattle.importing.specs.Steps.{restAnswer, restOctets, frontPut, laidDown, closedBy}
 use Rattle.importing.specs.declared.lines.Records.{Records}
 use Rattle.importing.specs.Wrote.{tags-from, Granted, granted, book-long, book-octets}
 use Rattle.importing.specs.Wrote.{head-slots, row-slots, HeadIs, offered-is, offered-long, head-given}
@@ -69,38 +70,39 @@ pub codes-start : (ts : List ℕ) → replicate 16 0 ≡ codesFor (take 0 ts)
 unfolding codesFor
 codes-start ts = refl
 
-module _ (ts : List ℕ) (few : length ts ≤ mostChosen) (i : ℕ) (codes : List ℕ) (inv : codes ≡ codesFor (take i ts)) where
-  pub codes-room : i < length ts → i < length codes
-  unfolding codesFor
-  codes-room h =
-      let l = length-take-le i ts (omega arith) in
-      let m = codes-long (take i ts) in
-      let n = length-append (codesOf (take i ts)) (replicate (16 - length (take i ts)) 0) in
-      let r = length-replicate {A = ℕ} (16 - length (take i ts)) 0 in
-      let q = ap length inv in
-      omega arith
+module _ (ts : List ℕ) (few : length ts ≤ mostChosen) (i : ℕ) (codes : List ℕ) (inv : codes ≡ codesFor (take i ts))
+  where
+    pub codes-room : i < length ts → i < length codes
+    unfolding codesFor
+    codes-room h =
+        let l = length-take-le i ts (omega arith) in
+        let m = codes-long (take i ts) in
+        let n = length-append (codesOf (take i ts)) (replicate (16 - length (take i ts)) 0) in
+        let r = length-replicate {A = ℕ} (16 - length (take i ts)) 0 in
+        let q = ap length inv in
+        omega arith
 
-  pub codes-next : i < length ts → set codes i (getD ts i 0 % 65536) ≡ codesFor (take (i + 1) ts)
-  unfolding codesFor
-  codes-next h =
-      let front : List ℕ = codesOf (take i ts) in
-      let l = length-take-le i ts (omega arith) in
-      let m = codes-long (take i ts) in
-      let t : take (i + 1) ts ≡ take i ts ++ (getD ts i 0 ∷ []) =
-      ap (λ (k : ℕ). take k ts) (add-one i) ∙ take-suc ts i 0 h in
-      let n = length-take-le (i + 1) ts (omega arith) in
-      let z : 16 - length (take i ts) ≡ suc (16 - suc i) = omega arith in
-      let y : 16 - length (take (i + 1) ts) ≡ 16 - suc i = omega arith in
-      let zeros : List ℕ = replicate (16 - suc i) 0 in
-      ap (λ (x : List ℕ). set x i (getD ts i 0 % 65536))
-      (inv ∙ ap (λ (k : ℕ). front ++ replicate {A = ℕ} k 0) z)
-      ∙ set-at front 0 zeros (getD ts i 0 % 65536) i (omega arith)
-      ∙ sym (append-snoc front (getD ts i 0 % 65536) zeros)
-      ∙ ap₂ (λ (x : List ℕ) (k : ℕ). x ++ replicate {A = ℕ} k 0)
-      (sym (codes-append (take i ts) (getD ts i 0 ∷ [])) ∙ ap codesOf (sym t)) (sym y)
+    pub codes-next : i < length ts → set codes i (getD ts i 0 % 65536) ≡ codesFor (take (i + 1) ts)
+    unfolding codesFor
+    codes-next h =
+        let front : List ℕ = codesOf (take i ts) in
+        let l = length-take-le i ts (omega arith) in
+        let m = codes-long (take i ts) in
+        let t : take (i + 1) ts ≡ take i ts ++ (getD ts i 0 ∷ []) =
+        ap (λ (k : ℕ). take k ts) (add-one i) ∙ take-suc ts i 0 h in
+        let n = length-take-le (i + 1) ts (omega arith) in
+        let z : 16 - length (take i ts) ≡ suc (16 - suc i) = omega arith in
+        let y : 16 - length (take (i + 1) ts) ≡ 16 - suc i = omega arith in
+        let zeros : List ℕ = replicate (16 - suc i) 0 in
+        ap (λ (x : List ℕ). set x i (getD ts i 0 % 65536))
+        (inv ∙ ap (λ (k : ℕ). front ++ replicate {A = ℕ} k 0) z)
+        ∙ set-at front 0 zeros (getD ts i 0 % 65536) i (omega arith)
+        ∙ sym (append-snoc front (getD ts i 0 % 65536) zeros)
+        ∙ ap₂ (λ (x : List ℕ) (k : ℕ). x ++ replicate {A = ℕ} k 0)
+        (sym (codes-append (take i ts) (getD ts i 0 ∷ [])) ∙ ap codesOf (sym t)) (sym y)
 
-  pub codes-all : length ts ≤ i → codes ≡ codesFor ts
-  codes-all h = inv ∙ ap codesFor (take-all i ts h)
+    pub codes-all : length ts ≤ i → codes ≡ codesFor ts
+    codes-all h = inv ∙ ap codesFor (take-all i ts h)
 
 pub ruleset codesCases = (codes-start, codes-room, codes-next, codes-all)
 
@@ -179,24 +181,25 @@ joins (Refused r) x y f = refl
 
 -- ---- the records
 
-module _ (forms codes flags hrec s : List ℕ) (w n : ℕ) (o : Verdict) (oe : o ≡ offeredIn (slotsFrom forms []) hrec) where
-  pub records-offered : (r : Refusal) → o ≡ Refused r → o ≡ recordsAt forms codes flags hrec s w n
-  unfolding recordsAt
-  records-offered r z = z ∙ rw (← oe, z)
+module _ (forms codes flags hrec s : List ℕ) (w n : ℕ) (o : Verdict) (oe : o ≡ offeredIn (slotsFrom forms []) hrec)
+  where
+    pub records-offered : (r : Refusal) → o ≡ Refused r → o ≡ recordsAt forms codes flags hrec s w n
+    unfolding recordsAt
+    records-offered r z = z ∙ rw (← oe, z)
 
-  module _ (z : o ≡ clear) where
-    pub records-long : 4 + room (length forms) ≤ length hrec
-    records-long = rw (slots-many forms []) at (offered-long (slotsFrom forms []) hrec (sym oe ∙ z))
+    module _ (z : o ≡ clear) where
+      pub records-long : 4 + room (length forms) ≤ length hrec
+      records-long = rw (slots-many forms []) at (offered-long (slotsFrom forms []) hrec (sym oe ∙ z))
 
-    module _ (v : Verdict) (ve : v ≡ headGiven forms w n hrec) where
-      pub records-first : (r : Refusal) → v ≡ Refused r → v ≡ recordsAt forms codes flags hrec s w n
-      unfolding recordsAt
-      records-first r y = y ∙ rw (← oe, z, ← ve, y)
+      module _ (v : Verdict) (ve : v ≡ headGiven forms w n hrec) where
+        pub records-first : (r : Refusal) → v ≡ Refused r → v ≡ recordsAt forms codes flags hrec s w n
+        unfolding recordsAt
+        records-first r y = y ∙ rw (← oe, z, ← ve, y)
 
-      pub records-lines : v ≡ clear → (x : Verdict) → x ≡ linesGiven codes flags (w + length hrec) n (rowsOf codes s)
-          → x ≡ recordsAt forms codes flags hrec s w n
-      unfolding recordsAt
-      records-lines y x e = e ∙ rw (← oe, z, ← ve, y)
+        pub records-lines : v ≡ clear → (x : Verdict) → x ≡ linesGiven codes flags (w + length hrec) n (rowsOf codes s)
+            → x ≡ recordsAt forms codes flags hrec s w n
+        unfolding recordsAt
+        records-lines y x e = e ∙ rw (← oe, z, ← ve, y)
 
 pub records-fit : (w n : ℕ) → w ≤ mostOctets → n < 9223372036854775808 → Fits w64 (w + n)
 records-fit w n h k = omega arith
@@ -530,7 +533,8 @@ module _ (text flags ht hf hrec d : List ℕ) (first : FirstLine) (e : first ≡
         → first .tags ≡ tags ++ replicate (16 - length tags) 0 → first .count ≡ length tags → X) → X
     told f =
         by-head text first e (λ p h q. unlike-walks (sym q ∙ z))
-        (λ tags v h x a b. let y : Ends v ≡ Ends w = sym x ∙ z in let u : v ≡ w = cc in f tags (h ∙ ap (tagsTo tags) u) a b)
+        (λ tags v h x a b. let y : Ends v ≡ Ends w = sym x
+        ∙ z in let u : v ≡ w = cc in f tags (h ∙ ap (tagsTo tags) u) a b)
 
     pub first-many : first .count ≤ length (first .tags)
     first-many =

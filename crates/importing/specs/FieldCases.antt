@@ -2,23 +2,22 @@
 use Prim.Native.Nat.{ℕ, zero, suc, _+_, _-_, _*_, _/_, _%_, _≤_, _<_}
 use native.Mathlib.Nat.{add-zero}
 use native.Mathlib.Omega.{arith}
-use native.Mathlib.Numerals.{add-one}
 use mathlib.Core.Path.{_≡_, refl, sym, ap, _∙_}
 use mathlib.Core.Bool.{Bool, true, false, not, cond}
-use mathlib.Core.Option.{Option, none, some}
+use mathlib.Core.Option.{none, some}
 use mathlib.Core.List.{List, [], _∷_, _++_}
 use lib.Arith.{digits-mod}
-use lib.Dec.{eqb, ltb}
+use lib.Dec.{eqb}
 use lib.ListN.{length, take, drop, getD, set, length-append, drop-of-length-le}
-use lib.Seq.{drop-cons, take-all}
-use borrow.Author.Tests.{eq-eqb, ne-eqb, eqb-true}
+use lib.Seq.{take-all}
+use borrow.Author.Tests.{eq-eqb, ne-eqb}
 use Rattle.octets.specs.Octets.{octetAt, drop-next}
 use Rattle.octets.specs.Splice.{splice, splice-nil, stored, stored-in}
 use Rattle.octets.specs.Stores.{splice-one, laid, laid-long}
 use Rattle.whole.specs.Number.{encodeNumber}
 use Rattle.entry.specs.Values.{entryOctets}
 use Rattle.sheet.specs.Digits.{numberFrom, numberIn}
-use Rattle.sheet.specs.Field.{numbers, truths, quote, isMark}
+use Rattle.sheet.specs.Field.{isMark}
 use Rattle.sheet.specs.Reading.{unquoted, contentIn}
 use Rattle.importing.specs.Fields.{endsBy, insideBy, fieldLong, isQuoted, unreadBy, readBy, laidFrom}
 
@@ -183,7 +182,8 @@ module _ (f : List ℕ) (t : Bool) (e : t ≡ isQuoted f) where
     pub long-quoted : (r : ℕ) → r ≡ length (unquoted false (take (length f - 1) (drop 1 f))) → r ≡ length (contentIn f)
     long-quoted r q = rw (content-quoted f (sym e ∙ z)) q
 
-    pub room-quoted : (at n : ℕ) → at + length (contentIn f) ≤ n → at + length (unquoted false (take (length f - 1) (drop 1 f))) ≤ n
+    pub room-quoted : (at n : ℕ) → at + length (contentIn f) ≤ n
+        → at + length (unquoted false (take (length f - 1) (drop 1 f))) ≤ n
     room-quoted at n h = rw (← content-quoted f (sym e ∙ z)) h
 
     pub put-quoted : (d out : List ℕ) (at : ℕ) → out ≡ splice d at (unquoted false (take (length f - 1) (drop 1 f)))
@@ -194,7 +194,8 @@ module _ (f : List ℕ) (t : Bool) (e : t ≡ isQuoted f) where
         → r ≡ numberIn (contentIn f) % 4294967296
     number-quoted r q = rw (content-quoted f (sym e ∙ z)) q
 
-    pub first-quoted : (r : ℕ) → r ≡ octetAt (unquoted false (take (length f - 1) (drop 1 f))) 0 → r ≡ octetAt (contentIn f) 0
+    pub first-quoted : (r : ℕ) → r ≡ octetAt (unquoted false (take (length f - 1) (drop 1 f))) 0
+        → r ≡ octetAt (contentIn f) 0
     first-quoted r q = rw (content-quoted f (sym e ∙ z)) q
 
   module _ (z : t ≡ false) where
@@ -456,6 +457,7 @@ module _ (code : ℕ) (t : List ℕ) (k : ℕ) (long : k ≡ length t) where
 
 pub ruleset valueLong = (none-long, number-long, truth-long, string-long)
 
-pub ruleset putValue = (none-at, none-put, number-at, number-put, truth-at, truth-room, truth-put, string-at, content-room)
+pub ruleset putValue =
+    (none-at, none-put, number-at, number-put, truth-at, truth-room, truth-put, string-at, content-room)
 
 pub ruleset putString = (zero-room, string-put)

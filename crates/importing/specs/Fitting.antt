@@ -3,15 +3,14 @@
 use Prim.Native.Nat.{ℕ, zero, suc, _+_, _-_, _%_, _^_, _≤_, _<_}
 use native.Mathlib.Nat.{add-zero, zero-add}
 use native.Mathlib.Omega.{arith}
-use mathlib.Core.Path.{_≡_, refl, sym, ap, ap₂, _∙_}
+use mathlib.Core.Path.{_≡_, refl, sym, ap, _∙_}
 use mathlib.Core.Bool.{Bool, true, false, cond}
-use mathlib.Core.Option.{Option, none, some}
-use mathlib.Core.List.{List, [], _∷_, _++_, append-nil, append-assoc}
-use lib.Dec.{eqb, ltb}
-use lib.ListN.{length, take, drop, getD, length-append}
+use mathlib.Core.Option.{none, some}
+use mathlib.Core.List.{List, [], _∷_, _++_, append-nil}
+use lib.Dec.{ltb}
+use lib.ListN.{length, drop, length-append}
 use lib.Seq.{take-append-seam, drop-append-seam}
-use borrow.Author.Tests.{ne-eqb, eq-eqb, ltb-true, lt-ltb, le-leb}
-use Rattle.octets.specs.Octets.{Octets}
+use borrow.Author.Tests.{ne-eqb, ltb-true}
 use Rattle.answers.specs.Numbers.{breaksRule, mostOctets, mostOpened}
 use Rattle.answers.specs.declared.Verdict.{Verdict}
 use Rattle.answers.specs.declared.Verdict.the-variants.{Clear as clear, Refused}
@@ -19,21 +18,22 @@ use Rattle.answers.specs.Verdict.{_then_, need, apart, unmet}
 use Rattle.answers.specs.declared.Walk.{Walk}
 use Rattle.answers.specs.declared.Walk.the-variants.{Ends, Broken}
 use Rattle.answers.specs.Walk.{broken, onto, no-end}
-use Rattle.presence.specs.Presence.{room, isSet}
+use Rattle.presence.specs.Presence.{room}
 use Rattle.whole.specs.declared.Number.{Number}
 use Rattle.whole.specs.declared.Number.the-variants.{Is, Broken as NoNumber}
 use Rattle.whole.specs.Number.{numberOf}
 use Rattle.value.specs.Types.{Kind, Form, one, many, unknown, formAt}
 use Rattle.value.specs.Value.{counted, elementOf, listFrom, listOf, valueOf}
 use Rattle.value.specs.Form.{IsValue, value-back, value-some}
-use Rattle.entry.specs.Present.{Row, Bits, presenceOf, presence-bits, presence-length}
-use Rattle.entry.specs.Record.{Slot, SoundEntry, SoundRow, freed, valuesOf, innerOf, rowOctets, row-length, row-long, unlike}
+use Rattle.entry.specs.Present.{Row, Bits, presenceOf, presence-length}
+use Rattle.entry.specs.Record.{Slot, SoundRow, freed, valuesOf, rowOctets, row-length, unlike}
 use Rattle.entry.specs.Slots.{slotsFrom, stepOf}
 use Rattle.book.specs.Rows.{rowsOctets, SoundRows}
 use Rattle.writing.specs.State.{roomAt, room-in}
-use Rattle.importing.specs.Given.{widthThen, elementsOf, countThen, piecesOf, rowPieces, piecesAt, keysIn, recordGiven}
+use Rattle.importing.specs.Given.{widthThen, elementsOf, countThen, piecesOf, rowPieces, piecesAt, keysIn}
+use Rattle.importing.specs.Given.{recordGiven}
 use Rattle.importing.specs.Given.{rowsGiven}
-use Rattle.importing.specs.Head.{columnGiven, columnLong, headFrom, headGiven}
+use Rattle.importing.specs.Head.{columnGiven, headFrom}
 
 -- ---- the pieces of a value are all of it
 
@@ -145,7 +145,7 @@ freed-length [] (e ∷ es) h = absurd h
 freed-length (s ∷ ss) [] h = absurd h
 freed-length (s ∷ ss) (e ∷ es) h = ap suc (freed-length ss es (h .1))
 
-row-parts : (ss : List Slot) (es : Row) → SoundRow (freed ss) es
+pub row-parts : (ss : List Slot) (es : Row) → SoundRow (freed ss) es
     → length (rowOctets es) ≡ 4 + room (length ss) + sum (rowPieces ss es)
 row-parts ss es h =
     let a = row-length es in
@@ -201,7 +201,8 @@ rows-fit ss (es ∷ rows) w n k h r m e =
 
 -- ---- the header record as the code goes over it
 
-pub head-is : (forms : List ℕ) (es : Row) (i : ℕ) (p : List ℕ) (w n : ℕ) → SoundRow (slotsFrom forms []) es → Bits p i es
+pub head-is : (forms : List ℕ) (es : Row) (i : ℕ) (p : List ℕ) (w n : ℕ) → SoundRow (slotsFrom forms []) es
+    → Bits p i es
     → headFrom forms i p w n (valuesOf es) ≡ piecesAt w n (rowPieces (slotsFrom forms []) es)
 unfolding headFrom rowPieces piecesAt stepOf columnGiven
 head-is [] [] i p w n h b = refl
@@ -209,7 +210,8 @@ head-is [] (e ∷ es) i p w n h b = absurd h
 head-is (f ∷ forms) [] i p w n h b = absurd h
 head-is (f ∷ forms) (none ∷ es) i p w n h b =
     rw (b .0)
-    (ap (λ (m : ℕ). headFrom forms (suc i) p m n (valuesOf es)) (add-zero w) ∙ head-is forms es (suc i) p w n (h .1) (b .1))
+    (ap (λ (m : ℕ). headFrom forms (suc i) p m n (valuesOf es)) (add-zero w)
+    ∙ head-is forms es (suc i) p w n (h .1) (b .1))
 head-is (f ∷ forms) (some v ∷ es) i p w n h b =
     let l = value-some (formAt f) v (h .0 .0) in
     let s = pieces-sum (formAt f) v (h .0 .0) in

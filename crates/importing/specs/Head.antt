@@ -1,6 +1,6 @@
 -- The header record as it is offered with its table: that it is one record to its last octet, and the ways of the code
 -- that goes over it value by value. Assumes nothing.
-use Prim.Native.Nat.{ℕ, zero, suc, _+_, _%_}
+use Prim.Native.Nat.{ℕ, suc, _+_, _%_}
 use mathlib.Core.Bool.{cond}
 use mathlib.Core.List.{List, [], _∷_}
 use lib.Dec.{eqb}

@@ -4,10 +4,8 @@ use native.Mathlib.Nat.{add-zero}
 use native.Mathlib.Omega.{arith}
 use native.Mathlib.Numerals.{add-one}
 use mathlib.Core.Path.{_≡_, refl, sym, ap, ap₂, _∙_}
-use mathlib.Core.Bool.{Bool, true, false, cond}
 use mathlib.Core.List.{List, [], _∷_, _++_}
-use lib.Dec.{eqb, ltb}
-use lib.ListN.{length, take, drop, getD, set, replicate, length-append, length-drop, drop-of-length-le}
+use lib.ListN.{length, take, drop, getD, set, replicate, length-drop, drop-of-length-le}
 use lib.Seq.{take-suc, take-all, length-take-le, drop-drop}
 use mir.Syntax.{w64}
 use mir.Val.{Fits}
@@ -19,7 +17,7 @@ use Rattle.answers.specs.Padded.{padded, padded-long, padded-more}
 use Rattle.answers.specs.declared.Refusal.{Refusal}
 use Rattle.answers.specs.declared.Verdict.{Verdict}
 use Rattle.answers.specs.declared.Verdict.the-variants.{Clear as clear, Refused}
-use Rattle.answers.specs.Verdict.{refused, _then_, need}
+use Rattle.answers.specs.Verdict.{refused, _then_}
 use Rattle.answers.specs.declared.Walk.{Walk}
 use Rattle.answers.specs.declared.Walk.the-variants.{Ends, Broken}
 use Rattle.presence.specs.Presence.{room}
@@ -27,10 +25,10 @@ use Rattle.whole.specs.declared.Number.{Number}
 use Rattle.whole.specs.declared.Number.the-variants.{Is, Broken as NoNumber}
 use Rattle.whole.specs.Number as whole
 use Rattle.whole.specs.Laws.{number-within}
-use Rattle.value.specs.Types.{Kind, Form, one, many, unknown, numberOf, kindAt, formAt}
+use Rattle.value.specs.Types.{Kind, Form, one, many, numberOf, kindAt, formAt}
 use Rattle.value.specs.Value.{elementOf, valueOf}
-use Rattle.value.specs.Within.{element-within, value-within}
-use Rattle.entry.specs.Record.{Slot, isClear, recordAt}
+use Rattle.value.specs.Within.{element-within}
+use Rattle.entry.specs.Record.{recordAt}
 use Rattle.entry.specs.Slots.{slotsFrom, stepOf}
 use Rattle.entry.specs.Cases.{step-within}
 use Rattle.entry.specs.Read.{widthOf}
@@ -329,7 +327,9 @@ module _ (forms xs : List ℕ) (w n k : ℕ) (z : k ≡ room (length forms)) (v 
   head-in q = let a = head-fits q in omega arith
 
   pub head-values : v ≡ clear → 4 + room (length forms) ≤ length xs → (x : Verdict)
-      → x ≡ headFrom forms 0 (take (4 + k - 4) (drop 4 xs)) (w + (4 + k)) n (take (length xs - (4 + k)) (drop (4 + k) xs))
+      → x
+      ≡ headFrom forms 0 (take (4 + k - 4) (drop 4 xs)) (w + (4 + k)) n
+      (take (length xs - (4 + k)) (drop (4 + k) xs))
       → x ≡ headGiven forms w n xs
   unfolding headGiven
   head-values q h x p =

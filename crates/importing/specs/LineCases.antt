@@ -1,5 +1,5 @@
 -- The ways of the code over a line, on plain values.
-use Prim.Native.Nat.{ℕ, zero, suc, _+_, _-_, _*_, _/_, _%_, _≤_, _<_}
+use Prim.Native.Nat.{ℕ, suc, _+_, _-_, _*_, _/_, _%_, _≤_, _<_}
 use native.Mathlib.Nat.{add-zero}
 use native.Mathlib.Omega.{arith}
 use native.Mathlib.Numerals.{add-one}
@@ -16,11 +16,11 @@ use borrow.Author.Tests.{eq-eqb, ne-eqb, lt-ltb, le-ltb}
 use Rattle.octets.specs.Octets.{octetAt, drop-next}
 use Rattle.octets.specs.Splice.{splice, splice-nil, stored, stored-in}
 use Rattle.octets.specs.Stores.{laid, laid-long, stored-before}
-use Rattle.answers.specs.Numbers.{breaksRule, mostOctets, mostOpened}
+use Rattle.answers.specs.Numbers.{breaksRule, mostOpened}
 use Rattle.answers.specs.declared.Refusal.{Refusal}
 use Rattle.answers.specs.declared.Verdict.{Verdict}
 use Rattle.answers.specs.declared.Verdict.the-variants.{Clear as clear, Refused}
-use Rattle.answers.specs.Verdict.{refused, need}
+use Rattle.answers.specs.Verdict.{refused}
 use Rattle.presence.specs.Presence as Presence
 use Rattle.presence.specs.Presence.{room, setBit}
 use Rattle.octets.specs.Word.{leOf}

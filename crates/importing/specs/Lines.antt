@@ -1,8 +1,7 @@
 -- The ways of the code over a line, as it goes from field to field: what the writer's calls answer, and what is laid
 -- down. Assumes nothing.
-use Prim.Native.Nat.{ℕ, zero, suc, _+_}
+use Prim.Native.Nat.{ℕ, _+_}
 use mathlib.Core.Bool.{Bool, true, false, cond}
-use mathlib.Core.Option.{none, some}
 use mathlib.Core.List.{List, [], _∷_, _++_}
 use lib.Dec.{eqb, ltb}
 use lib.ListN.{length, drop, getD}
@@ -11,7 +10,7 @@ use Rattle.answers.specs.declared.Verdict.{Verdict}
 use Rattle.answers.specs.declared.Verdict.the-variants.{Clear as clear, Refused}
 use Rattle.answers.specs.Verdict.{refused, _then_, need}
 use Rattle.presence.specs.Presence.{room}
-use Rattle.entry.specs.Present.{Row, marks}
+use Rattle.entry.specs.Present.{marks}
 use Rattle.entry.specs.Record.{valuesOf, rowOctets}
 use Rattle.entry.specs.Values.{entryOctets}
 use Rattle.entry.specs.Slots.{keyBit}

@@ -1,18 +1,18 @@
 -- The ways of the code over all lines, on plain values: line by line what the writer's calls answer is what they answer
 -- to the sheet's rows, and what is laid down is their octets.
-use Prim.Native.Nat.{ℕ, zero, suc, _+_, _-_, _^_, _≤_, _<_}
+use Prim.Native.Nat.{ℕ, suc, _+_, _-_, _^_, _≤_, _<_}
 use native.Mathlib.Nat.{add-zero}
 use native.Mathlib.Omega.{arith}
 use mathlib.Core.Path.{_≡_, refl, sym, ap, ap₂, _∙_}
 use mathlib.Core.Bool.{Bool, true, false, not, cond}
 use mathlib.Core.Option.{Option, none, some}
 use mathlib.Core.List.{List, [], _∷_, _++_}
-use lib.Dec.{eqb, ltb, leb}
-use lib.ListN.{length, take, drop, getD, length-append, length-drop, drop-of-length-le}
+use lib.Dec.{eqb, ltb}
+use lib.ListN.{length, drop, getD, length-append, length-drop, drop-of-length-le}
 use lib.Seq.{drop-drop}
 use mir.Syntax.{w64}
 use mir.Val.{Fits}
-use borrow.Author.Tests.{eq-eqb, ne-eqb, lt-ltb, le-ltb, le-leb, ltb-true}
+use borrow.Author.Tests.{eq-eqb, ne-eqb, le-leb, ltb-true}
 use Rattle.octets.specs.Splice.{splice, splice-nil}
 use Rattle.octets.specs.Stores.{laid, laid-long}
 use Rattle.answers.specs.Numbers.{breaksRule, mostOctets, mostOpened}
@@ -24,7 +24,7 @@ use Rattle.presence.specs.Presence.{room}
 use Rattle.value.specs.Types.{numberOf, formIn, formAt, formOf}
 use Rattle.entry.specs.Present.{Row}
 use Rattle.entry.specs.Record.{Slot, valuesOf, rowOctets}
-use Rattle.entry.specs.Values.{entryOctets, entry-first}
+use Rattle.entry.specs.Values.{entryOctets}
 use Rattle.entry.specs.Slots.{keyBit}
 use Rattle.book.specs.Rows.{rowsOctets}
 use Rattle.writing.specs.State.{roomAt, room-in}
@@ -34,7 +34,7 @@ use Rattle.sheet.specs.Values.{by-type}
 use Rattle.sheet.specs.One.{Exported}
 use Rattle.importing.specs.Fields.{fieldLong, fieldIn, fieldBehind, laidFrom, laidRow, lineLong}
 use Rattle.importing.specs.Given.{piecesOf, rowPieces, piecesAt, keysIn, recordGiven, rowsGiven}
-use Rattle.importing.specs.Lines.{noLine, onward, keyHeld, fieldSize, lineFrom, recordFrom, linePut}
+use Rattle.importing.specs.Lines.{noLine, onward, keyHeld, lineFrom, recordFrom, linePut}
 use Rattle.importing.specs.LineCases.{laid-some, row-parts}
 use Rattle.importing.specs.Tied.{Taken, rowsOf, NextLine, next-line, no-lines}
 use Rattle.importing.specs.declared.lines.Line.{Line}
@@ -299,7 +299,8 @@ module _ (s codes flags : List ℕ) (at k w n opened : ℕ)
   unfolding rowsGiven
   rows-clear = sym inv ∙ ap (rowsGiven (slotsBy codes flags) k n opened) none-left
 
-  pub lines-none : opened < 2 → (v : Verdict) → v ≡ refused breaksRule 0 → v ≡ linesGiven codes flags w n (rowsOf codes s)
+  pub lines-none : opened < 2 → (v : Verdict) → v ≡ refused breaksRule 0
+      → v ≡ linesGiven codes flags w n (rowsOf codes s)
   unfolding linesGiven
   lines-none l v q =
       let a = ap length none-left in
@@ -398,7 +399,8 @@ module _ (s codes : List ℕ) (at : ℕ) (t : Taken codes (drop at s)) (h : at <
             ∙ ap (splice out k) (sym (ap rowsOctets rows-are
             ∙ ap (λ (m : ℕ). rowOctets first ++ rowsOctets (rowsOf codes (drop m s))) (sym end-is))) ∙ inv
 
-pub ruleset linesPutting = (put-within, put-room, put-end, put-measure, put-taken, put-count, put-rest, put-kept, put-step)
+pub ruleset linesPutting =
+    (put-within, put-room, put-end, put-measure, put-taken, put-count, put-rest, put-kept, put-step)
 
 module _ (s codes : List ℕ) (at : ℕ) (h : length s ≤ at) where
   all-put : rowsOf codes (drop at s) ≡ []

@@ -5,14 +5,13 @@ use native.Mathlib.Nat.{zero-add}
 use native.Mathlib.Omega.{arith}
 use native.Mathlib.Decide.{ℕ-discrete}
 use mathlib.Core.Path.{_≡_, refl, sym, ap, _∙_}
-use mathlib.Core.Bool.{Bool, true, false, cond}
-use mathlib.Core.Option.{Option, none, some}
+use mathlib.Core.Option.{none, some}
 use mathlib.Core.List.{List, [], _∷_, _++_}
-use lib.ListN.{length, take, replicate, length-replicate, length-append, set, getD, List·getD-append}
+use lib.ListN.{length, take, replicate, set, List·getD-append}
 use lib.Seq.{take-at}
 use Rattle.octets.specs.Octets.{Octets}
 use Rattle.presence.specs.Presence.{room, bitAt, setBit, set-same, set-other, bits-ext}
-use Rattle.entry.specs.Present.{Row, there, marks, presenceOf, marks-length, marks-octets}
+use Rattle.entry.specs.Present.{Row, marks, presenceOf, marks-length}
 use Rattle.entry.specs.Present.{length-setBit, octets-setBit, zeros}
 
 -- the octets p with the bits set of those entries that are there, the first of them at bit i

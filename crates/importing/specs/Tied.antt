@@ -1,21 +1,19 @@
 -- The fields that the code goes over are those of a sheet: of a text that the scan takes, each line's row is the one
 -- that the sheet holds, and the writer's calls for it are those of the table.
-use Prim.Native.Nat.{ℕ, zero, suc, _+_, _-_, _%_, _^_, _≤_, _<_}
-use native.Mathlib.Nat.{add-zero, zero-add, mod-eq-of-lt}
+use Prim.Native.Nat.{ℕ, suc, _+_, _-_, _%_, _^_, _≤_, _<_}
+use native.Mathlib.Nat.{zero-add, mod-eq-of-lt}
 use native.Mathlib.Omega.{arith}
 use native.Mathlib.Decide.{ℕ-discrete}
-use native.Mathlib.Numerals.{add-one}
 use mathlib.Core.Path.{_≡_, refl, sym, ap, ap₂, _∙_}
 use mathlib.Core.Bool.{Bool, true, false, not, cond}
 use mathlib.Core.Logic.{inl, inr}
 use mathlib.Core.Option.{Option, none, some}
 use mathlib.Core.List.{List, [], _∷_, _++_, append-assoc}
-use lib.Dec.{eqb, ltb, leb}
-use lib.ListN.{length, take, drop, getD, length-append}
+use lib.Dec.{eqb, ltb}
+use lib.ListN.{length, take, drop, length-append}
 use lib.Seq.{append-snoc, take-at, drop-at, drop-append-seam}
-use borrow.Author.Tests.{ne-eqb, eq-eqb, ltb-true, le-leb, lt-ltb}
+use borrow.Author.Tests.{ne-eqb, ltb-true}
 use Rattle.octets.specs.Cases.{taken}
-use Rattle.octets.specs.Octets.{octetAt}
 use Rattle.answers.specs.declared.Walk.the-variants.{Ends, Broken}
 use Rattle.whole.specs.Number.{encodeNumber}
 use Rattle.entry.specs.Present.{Row}
@@ -27,7 +25,7 @@ use Rattle.sheet.specs.Reading.{contentIn, linesIn, valueFrom, valuesFrom, rows
 use Rattle.sheet.specs.Back.{Spells, plainly, inQuotes, content-back, line-read}
 use Rattle.scanning.specs.Scan.{fits, held, scanIn}
 use Rattle.scanning.specs.Sheets.{IsLine, IsText, GoodLine, GoodText, lines-are}
-use Rattle.scanning.specs.Exact.{TextIs, text-taken, text-sound}
+use Rattle.scanning.specs.Exact.{text-taken, text-sound}
 use Rattle.scanning.specs.First.{tagsTo, headIn}
 use Rattle.scanning.specs.FirstSound.{first-sound}
 use Rattle.scanning.specs.Place.{place-is}

@@ -1,47 +1,45 @@
 -- The book that is written, where nothing is refused: tables, header record and rows laid down one behind the other,
 -- and finished, are the book of the sheet's table.
-use Prim.Native.Nat.{ℕ, zero, suc, _+_, _-_, _*_, _%_, _/_, _^_, _≤_, _<_}
-use native.Mathlib.Nat.{zero-add}
+use Prim.Native.Nat.{ℕ, suc, _+_, _-_, _*_, _%_, _/_, _^_, _≤_, _<_}
 use native.Mathlib.Omega.{arith}
 use mathlib.Core.Path.{_≡_, refl, sym, ap, ap₂, _∙_}
-use mathlib.Core.Bool.{Bool, true, false, not, cond}
-use mathlib.Core.Option.{none, some}
+use mathlib.Core.Bool.{true, false}
+use mathlib.Core.Option.{some}
 use mathlib.Core.List.{List, [], _∷_, _++_, append-nil, append-assoc}
 use lib.Dec.{eqb, leb}
-use lib.ListN.{length, take, drop, getD, length-append, length-drop, drop-of-length-le}
-use lib.Seq.{drop-drop}
-use mir.Syntax.{w8, w32}
+use lib.ListN.{length, take, drop, getD, length-append, drop-of-length-le}
+use mir.Syntax.{w32}
 use mir.Val.{Fits}
-use borrow.Author.Tests.{eqb-true, not-true, eqb-false, ne-eqb, eq-eqb, leb-true}
-use Rattle.octets.specs.Octets.{Octets, octets-from}
-use Rattle.octets.specs.Splice.{splice, stored, stored-in, length-stored}
+use borrow.Author.Tests.{eqb-true, not-true, eqb-false, ne-eqb, leb-true}
+use Rattle.octets.specs.Octets.{Octets}
+use Rattle.octets.specs.Splice.{stored, stored-in, length-stored}
 use Rattle.octets.specs.Stores.{front-stored}
 use Rattle.octets.specs.Word.{wordOf}
-use Rattle.answers.specs.Numbers.{breaksRule, breaksForm, cutShort, wrongSize, mostOctets, mostColumns, mostOpened}
+use Rattle.answers.specs.Numbers.{breaksRule, breaksForm, cutShort, wrongSize, mostOpened}
 use Rattle.answers.specs.declared.Verdict.{Verdict}
 use Rattle.answers.specs.declared.Verdict.the-variants.{Clear as clear, Refused}
 use Rattle.answers.specs.Verdict.{_then_, need, apart, unmet}
 use Rattle.presence.specs.Presence.{room}
 use Rattle.value.specs.Types.{numberOf, formOf}
-use Rattle.table.specs.Table.{Column, codeOf, isKey}
+use Rattle.table.specs.Table.{Column, codeOf}
 use Rattle.table.specs.Columns.{formsOf}
-use Rattle.entry.specs.Present.{Row, presenceOf, presence-bits, presence-length}
-use Rattle.entry.specs.Record.{Slot, SoundRow, freed, isClear, recordAt, RecordIs, record-sound, valuesOf, innerOf, rowOctets}
-use Rattle.entry.specs.Record.{presentIn, present-is, values-behind, row-length, row-long, unlike}
+use Rattle.entry.specs.Present.{Row, presenceOf, presence-bits}
+use Rattle.entry.specs.Record.{Slot, SoundRow, freed, isClear, recordAt, record-sound, valuesOf, rowOctets}
+use Rattle.entry.specs.Record.{presentIn, present-is, values-behind, row-long, unlike}
 use Rattle.entry.specs.Slots.{keyBit, slotsFrom, slots-many}
 use Rattle.entry.specs.Read.{rowIn, row-in}
-use Rattle.book.specs.Rows.{rowsOctets, SoundRows}
-use Rattle.book.specs.Book.{Book, Sound, bookOctets, headSlots, rowSlots}
+use Rattle.book.specs.Rows.{rowsOctets}
+use Rattle.book.specs.Book.{Sound, bookOctets, headSlots, rowSlots}
 use Rattle.book.specs.JudgeCases.{slots-head}
-use Rattle.writing.specs.State.{roomAt, idleOf}
+use Rattle.writing.specs.State.{roomAt}
 use Rattle.writing.specs.declared.Writing.{Writing}
 use Rattle.framing.specs.Frame.{finishAt, finishOctets}
 use Rattle.begin.specs.Begin.{startSize, beginAt, beginNext, beginOctets, columnsFrom, startOctets}
-use Rattle.begin.specs.Cases.{Begins, begin-in, from-long}
-use Rattle.begin.specs.Taken.{Tags, start-long}
-use Rattle.drafting.specs.Lists.{written, written-long, stored-behind}
-use Rattle.drafting.specs.Draft.{closedOctets, Begun, Front, Between}
-use Rattle.drafting.specs.Turns.{between-idle, closed-long}
+use Rattle.begin.specs.Cases.{begin-in}
+use Rattle.begin.specs.Taken.{Tags}
+use Rattle.drafting.specs.Lists.{written, stored-behind}
+use Rattle.drafting.specs.Draft.{closedOctets, Between}
+use Rattle.drafting.specs.Turns.{between-idle}
 use Rattle.drafting.specs.Laid.{begin-length}
 use Rattle.drafting.specs.Finish.{begin-keeps, bookFrom, Finished, finish-is}
 use Rattle.sheet.specs.Field.{codesOf}
@@ -51,11 +49,11 @@ use Rattle.scanning.specs.Scan.{fits}
 use Rattle.scanning.specs.Sheets.{lines-are}
 use Rattle.scanning.specs.Exact.{text-sound}
 use Rattle.scanning.specs.Sound.{rows-sound}
-use Rattle.importing.specs.Given.{recordGiven, rowsGiven, keysIn, rowPieces, piecesAt}
+use Rattle.importing.specs.Given.{recordGiven, rowsGiven, rowPieces, piecesAt}
 use Rattle.importing.specs.Head.{offeredIn, formsFor, headFrom, headGiven}
-use Rattle.importing.specs.LinesCases.{slotsBy, slots-by-long, linesGiven, recordsPut}
+use Rattle.importing.specs.LinesCases.{slotsBy}
 use Rattle.importing.specs.Tied.{Taken, rowsOf}
-use Rattle.importing.specs.Fitting.{Roomed, RecordFits, record-fits, FreeRows, RowsFit, rows-fit, keys-held, head-is}
+use Rattle.importing.specs.Fitting.{RecordFits, record-fits, FreeRows, RowsFit, rows-fit, keys-held, head-is}
 use Rattle.importing.specs.From.{bookWith, callsAt}
 use Rattle.importing.specs.Steps.{restBook, givenAt, frontPut, laidDown, closedBy}
 
@@ -85,7 +83,7 @@ free-by : (codes flags : List ℕ) → freed (slotsBy codes flags) ≡ freeSlots
 free-by [] flags = refl
 free-by (c ∷ cs) flags = ap (λ (l : List Slot). freeSlot c ∷ l) (free-by cs (drop 1 flags))
 
-free-rows : (codes flags : List ℕ) (rows : List Row) → SoundChoice codes rows → FreeRows (slotsBy codes flags) rows
+pub free-rows : (codes flags : List ℕ) (rows : List Row) → SoundChoice codes rows → FreeRows (slotsBy codes flags) rows
 free-rows codes flags [] h = tt
 free-rows codes flags (es ∷ rows) h = (rw (free-by codes flags) (h .0), free-rows codes flags rows (h .1))
 
@@ -172,7 +170,8 @@ pub record Granted (tags flags ht hf hrec s d : List ℕ) : Type 0 where
   pub head : HeadIs (headSlots (columnsFrom ht hf)) hrec
   pub first : RecordFits (headSlots (columnsFrom ht hf)) (startSize (length ht) (length tags)) (length d) 0
       (rowIn (headSlots (columnsFrom ht hf)) hrec)
-  pub rest : RowsFit (rowSlots (columnsFrom tags flags)) (startSize (length ht) (length tags) + length hrec) (length d) 1
+  pub rest : RowsFit (rowSlots (columnsFrom tags flags)) (startSize (length ht) (length tags) + length hrec)
+      (length d) 1
       (rowsOf (codesOf tags) s)
   pub some : 1 ≤ length (rowsOf (codesOf tags) s)
 
@@ -210,7 +209,8 @@ module _ (tags flags ht hf hrec s d : List ℕ) (t : Taken (codesOf tags) s) (ex
       let q = row-slots tags flags (sym (m .rows)) in
       let fr : FreeRows (rowSlots cs) rows =
       rw q (free-rows (codesOf tags) flags rows (lines-sound (codesOf tags) s t ex os)) in
-      let r = rows-fit (rowSlots cs) rows (w₀ + length (rowOctets head)) (length d) 1 fr (f .roomed) (omega arith) (g .0) in
+      let r =
+      rows-fit (rowSlots cs) rows (w₀ + length (rowOctets head)) (length d) 1 fr (f .roomed) (omega arith) (g .0) in
       let n = eqb-false (length rows) 0 (not-true (eqb (length rows) 0) (unmet _ breaksRule 0 (g .1))) in
       let l : length (rowOctets head) ≡ length hrec = ap length (sym (h .reads)) in
       record {
@@ -261,7 +261,8 @@ module _ (tags flags ht hf hrec s d : List ℕ) (t : Taken (codesOf tags) s) (ex
           ∙ stored-behind front hrec d w₀ (sym front-long) (let c = front-long in omega arith)
 
       copied-long : length x ≡ length d
-      copied-long = ap length front-is ∙ length-stored (beginOctets ht hf tags flags d) w₀ hrec ∙ begin-length ht hf tags flags d
+      copied-long = ap length front-is ∙ length-stored (beginOctets ht hf tags flags d) w₀ hrec
+          ∙ begin-length ht hf tags flags d
 
       laid-down : y ≡ written (closedOctets hs cs (head ∷ rows)) d
       unfolding laidDown
@@ -315,7 +316,8 @@ module _ (tags flags ht hf hrec s d : List ℕ) (t : Taken (codesOf tags) s) (ex
       done : Finished st (finishOctets st y) d (bookFrom hs cs (head ∷ rows))
       done = finish-is st y d hs cs (head ∷ rows) behind finish-clear
 
-      pub book-long : w₀ + length hrec + length (rowsOctets rows) ≡ length (bookOctets (restBook tags flags ht hf hrec s))
+      pub book-long : w₀ + length hrec + length (rowsOctets rows)
+          ≡ length (bookOctets (restBook tags flags ht hf hrec s))
       unfolding restBook bookWith
       book-long = done .long
 
@@ -323,6 +325,3 @@ module _ (tags flags ht hf hrec s d : List ℕ) (t : Taken (codesOf tags) s) (ex
       unfolding restBook bookWith
       book-octets =
           done .octets ∙ sym (front-stored d (bookOctets (bookFrom hs cs (head ∷ rows))) (done .room))
-
-      pub rows-few : length rows + 1 ≤ mostOpened
-      rows-few = let f = g .rest .few in omega arith

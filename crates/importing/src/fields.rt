@@ -5,16 +5,14 @@ use sheet::QUOTE;
 use sheet::TRUTHS;
 use sheet::is_mark;
 ghost use mathlib.Core.Path.{_≡_};
-ghost use mathlib.Core.Bool.{true, false, not, cond};
+ghost use mathlib.Core.Bool.{false, cond};
 ghost use mathlib.Core.List.{[], _∷_};
 ghost use Prim.Native.Nat.{_+_, _-_, _*_, _%_, _≤_, _<_};
-ghost use lib.Dec.{eqb};
 ghost use lib.ListN.{length, drop};
 ghost use Rattle.octets.specs.Octets.{octetAt};
 ghost use Rattle.octets.specs.Splice.{splice};
 ghost use Rattle.entry.specs.Values.{entryOctets};
 ghost use Rattle.sheet.specs.Digits.{numberIn};
-ghost use Rattle.sheet.specs.Field.{isMark};
 ghost use Rattle.sheet.specs.Reading.{unquoted, contentIn};
 ghost use Rattle.importing.specs.Fields.{endsBy, insideBy, fieldLong, isQuoted, unreadBy, readBy, laidFrom};
 

@@ -10,7 +10,7 @@ use whole::Number;
 ghost use mathlib.Core.Path.{_≡_};
 ghost use mathlib.Core.List.{[]};
 ghost use Prim.Native.Nat.{_+_, _^_, _≤_, _<_};
-ghost use lib.ListN.{length, replicate};
+ghost use lib.ListN.{length};
 ghost use Rattle.answers.specs.Numbers.{mostColumns, mostOctets};
 ghost use Rattle.answers.specs.Padded.{padded};
 ghost use Rattle.presence.specs.Presence.{room};

@@ -20,7 +20,7 @@ use writing::Writing;
 ghost use mathlib.Core.Path.{_≡_};
 ghost use mathlib.Core.List.{[]};
 ghost use Prim.Native.Nat.{_+_, _*_, _^_, _≤_, _<_};
-ghost use lib.ListN.{length, drop};
+ghost use lib.ListN.{length};
 ghost use Rattle.octets.specs.Splice.{stored};
 ghost use Rattle.answers.specs.Numbers.{mostOctets, mostColumns};
 ghost use Rattle.answers.specs.declared.Verdict.the-variants.{Clear};
@@ -32,7 +32,8 @@ ghost use Rattle.sheet.specs.Field.{mostChosen, codesOf};
 ghost use Rattle.sheet.specs.One.{Exported};
 ghost use Rattle.importing.specs.Tied.{Taken, rowsOf};
 ghost use Rattle.importing.specs.From.{askedAt, fromAnswer, fromOctets};
-ghost use Rattle.importing.specs.Steps.{codesFor, recordsAt, givenAt, restBook, givenAnswer, givenOctets, restAnswer, restOctets, frontPut, laidDown, closedBy};
+ghost use Rattle.importing.specs.Steps.{codesFor, recordsAt, givenAt, restBook, givenAnswer, givenOctets};
+ghost use Rattle.importing.specs.Steps.{restAnswer, restOctets, frontPut, laidDown, closedBy};
 
 // The code of each tag's type, 0 behind the last.
 fn codes_of(tags: &[u32]) -> [u32; 16]
@@ -278,7 +279,8 @@ fn from_lines(
     give_book(tags, &codes[0..k], flags, htags, hflags, offered, s, out)
 }
 
-// The book of the sheet `text`, with these column flags, and with this header record of a table of these tags and flags.
+// The book of the sheet `text`, with these column flags, and with this header record of a table of these tags and
+// flags.
 pub fn from_sheet(
     text: &[u8],
     flags: &[u32],

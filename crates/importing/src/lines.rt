@@ -10,7 +10,6 @@ ghost use mathlib.Core.Bool.{true, false, cond};
 ghost use Prim.Native.Nat.{_+_, _*_, _^_, _≤_, _<_};
 ghost use lib.ListN.{length, drop};
 ghost use Rattle.octets.specs.Splice.{splice};
-ghost use Rattle.answers.specs.Numbers.{mostOctets, mostOpened};
 ghost use Rattle.presence.specs.Presence.{setBit};
 ghost use Rattle.entry.specs.Record.{valuesOf, rowOctets};
 ghost use Rattle.book.specs.Rows.{rowsOctets};

@@ -1,9 +1,9 @@
 // Numbers and truths: octet by octet, but for the digits behind a number's first one.
-use crate::NUMBERS;
-use crate::QUOTE;
 use crate::Stage;
 use crate::Step;
 use answers::Walk;
+use sheet::NUMBERS;
+use sheet::QUOTE;
 ghost use mathlib.Core.Path.{_≡_};
 ghost use mathlib.Core.Bool.{false, cond};
 ghost use Prim.Native.Nat.{_≤_};

@@ -1,7 +1,7 @@
 // Whether a field that has ended holds a value of its type, judged where it stands.
-use crate::NUMBERS;
-use crate::QUOTE;
-use crate::TEXTS;
+use sheet::NUMBERS;
+use sheet::QUOTE;
+use sheet::TEXTS;
 ghost use mathlib.Core.Path.{_≡_};
 ghost use lib.Dec.{ltb};
 ghost use Prim.Native.Nat.{_-_, _<_};

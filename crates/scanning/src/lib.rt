@@ -9,6 +9,11 @@ use answers::Walk;
 use digits::walk_number;
 use digits::walk_steps;
 use fits::fits_field;
+use sheet::COMMA;
+use sheet::CR;
+use sheet::LF;
+use sheet::NUMBERS;
+use sheet::TRUTHS;
 use strings::walk_string;
 use tags::next_of;
 ghost use mathlib.Core.Path.{_≡_};
@@ -22,21 +27,6 @@ ghost use Rattle.scanning.specs.Scan.{fits, held, scanIn};
 ghost use Rattle.scanning.specs.First.{headIn, faultAt, firstLineOf};
 ghost use Rattle.scanning.specs.FieldBack.{AnEnd};
 ghost use Rattle.scanning.specs.ScanCases.{fieldPassed, passedOf};
-
-pub const QUOTE: u8 = 34;
-
-pub const COMMA: u8 = 44;
-
-pub const CR: u8 = 13;
-
-pub const LF: u8 = 10;
-
-// The types that are no strings, and the one that is UTF-8.
-pub const NUMBERS: u32 = 3;
-
-pub const TRUTHS: u32 = 11;
-
-pub const TEXTS: u32 = 31;
 
 // Where the scan of a field stands: outside quotes or inside them, with what has been read, or behind a quote that
 // closes or is the first of two. What has been read is 0 nothing, 1 something that more may follow, 2 something that

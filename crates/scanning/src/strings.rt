@@ -1,9 +1,9 @@
 // Strings: their plain octets are passed in a loop of their own.
-use crate::COMMA;
-use crate::CR;
-use crate::LF;
-use crate::QUOTE;
 use answers::Walk;
+use sheet::COMMA;
+use sheet::CR;
+use sheet::LF;
+use sheet::QUOTE;
 ghost use mathlib.Core.Path.{_≡_};
 ghost use mathlib.Core.Bool.{false};
 ghost use Prim.Native.Nat.{_≤_};

@@ -1,10 +1,10 @@
 // What an octet does to the scan of a first line.
-use crate::COMMA;
-use crate::CR;
-use crate::LF;
 use crate::Next;
-use crate::QUOTE;
 use crate::Stand;
+use sheet::COMMA;
+use sheet::CR;
+use sheet::LF;
+use sheet::QUOTE;
 ghost use mathlib.Core.Path.{_≡_};
 ghost use Prim.Native.Nat.{_<_};
 ghost use Rattle.scanning.specs.First.{digitIn, nextEnd, nextQuote, nextTag, nextOf};

@@ -13,7 +13,8 @@ use Rattle.importing.proofs.fields.ends_field.Reads as ends-field-reads
 use Rattle.importing.proofs.fields.goes_inside.Reads as goes-inside-reads
 
 abbrev Inv-loop : tie.InvT-loop
-Inv-loop s at i₀ inside₀ i inside = (at ≤ i) × (i ≤ length s) × (i + fieldLong inside (drop i s) ≡ at + fieldLong false (drop at s))
+Inv-loop s at i₀ inside₀ i inside = (at ≤ i) × (i ≤ length s)
+    × (i + fieldLong inside (drop i s) ≡ at + fieldLong false (drop at s))
 
 abbrev μ-loop : tie.MeasureT-loop
 μ-loop s at i₀ inside₀ i inside = length s - i

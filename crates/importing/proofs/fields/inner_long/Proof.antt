@@ -13,7 +13,8 @@ use Rattle.importing.proofs.fields.counted.Reads as counted-reads
 use Rattle.importing.proofs.fields.is_unread.Reads as is-unread-reads
 
 abbrev Inv-loop : tie.InvT-loop
-Inv-loop s second₀ k₀ i₀ second k i = (i ≤ length s) × (k ≤ i) × (k + length (unquoted second (drop i s)) ≡ length (unquoted false s))
+Inv-loop s second₀ k₀ i₀ second k i = (i ≤ length s) × (k ≤ i)
+    × (k + length (unquoted second (drop i s)) ≡ length (unquoted false s))
 
 abbrev μ-loop : tie.MeasureT-loop
 μ-loop s second₀ k₀ i₀ second k i = length s - i

@@ -11,7 +11,8 @@ use Rattle.importing.proofs.fields.plain_number.Lts as lts
 use Rattle.importing.proofs.fields.with_digit.Reads as with-digit-reads
 
 abbrev Inv-loop : tie.InvT-loop
-Inv-loop s a₀ i₀ a i = (i ≤ length s) × (a < 4294967296) × (numberFrom a (drop i s) % 4294967296 ≡ numberIn s % 4294967296)
+Inv-loop s a₀ i₀ a i = (i ≤ length s) × (a < 4294967296)
+    × (numberFrom a (drop i s) % 4294967296 ≡ numberIn s % 4294967296)
 
 abbrev μ-loop : tie.MeasureT-loop
 μ-loop s a₀ i₀ a i = length s - i

@@ -4,7 +4,7 @@ use Prim.Native.Nat.{_+_, _-_, _*_, _%_, _≤_, _<_}
 use lib.ListN.{length, drop}
 use Rattle.sheet.specs.Reading.{unquoted}
 use Rattle.octets.specs.Splice.{splice}
-use Rattle.importing.specs.FieldCases.{putInner, inner-room, inner-length, inner-rest, inner-step}
+use Rattle.importing.specs.FieldCases.{putInner, inner-length, inner-rest, inner-step}
 use borrow.Author.Needs.{needs}
 use Rattle.importing.proofs.fields.put_inner.Statement.{statement}
 use Rattle.importing.proofs.fields.put_inner.Tie as tie
@@ -14,7 +14,8 @@ use Rattle.importing.proofs.fields.is_unread.Reads as is-unread-reads
 use Rattle.importing.proofs.fields.put_one.Reads as put-one-reads
 
 abbrev Inv-loop : tie.InvT-loop
-Inv-loop out₀ at s second₀ k₀ i₀ out second k i = (i ≤ length s) × (length out ≡ length out₀) × (k + length (unquoted second (drop i s)) ≡ at + length (unquoted false s))
+Inv-loop out₀ at s second₀ k₀ i₀ out second k i = (i ≤ length s) × (length out ≡ length out₀)
+    × (k + length (unquoted second (drop i s)) ≡ at + length (unquoted false s))
     × (splice out k (unquoted second (drop i s)) ≡ splice out₀ at (unquoted false s))
 
 abbrev μ-loop : tie.MeasureT-loop

@@ -19,7 +19,8 @@ use Rattle.importing.proofs.lines.no_line.Reads as no-line-reads
 use Rattle.writing.proofs.judge_room.Reads as judge-room-reads
 
 abbrev Inv-loop : tie.InvT-loop
-Inv-loop s at codes flags w n held₀ k₀ i₀ j₀ held k i j = (j ≤ length codes) × (i + lineLong (drop j codes) (drop i s) ≤ length s)
+Inv-loop s at codes flags w n held₀ k₀ i₀ j₀ held k i j = (j ≤ length codes)
+    × (i + lineLong (drop j codes) (drop i s) ≤ length s)
     × (lineFrom (drop j codes) (drop j flags) held k n i (drop i s) ≡ lineFrom codes flags true w n at (drop at s))
 
 abbrev μ-loop : tie.MeasureT-loop

@@ -16,7 +16,9 @@ use Rattle.importing.proofs.lines.judge_record.Reads as judge-record-re
 abbrev Inv-loop : tie.InvT-loop
 Inv-loop s codes flags w n opened₀ k₀ at₀ opened k at = (at ≤ length s) × Taken codes (drop at s)
     × (opened + length (rowsOf codes (drop at s)) ≡ 1 + length (rowsOf codes s))
-    × (rowsGiven (slotsBy codes flags) k n opened (rowsOf codes (drop at s)) ≡ rowsGiven (slotsBy codes flags) w n 1 (rowsOf codes s))
+    ×
+    (rowsGiven (slotsBy codes flags) k n opened (rowsOf codes (drop at s))
+    ≡ rowsGiven (slotsBy codes flags) w n 1 (rowsOf codes s))
 
 abbrev μ-loop : tie.MeasureT-loop
 μ-loop s codes flags w n opened₀ k₀ at₀ opened k at = length s - at

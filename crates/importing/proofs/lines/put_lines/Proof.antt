@@ -14,7 +14,8 @@ use Rattle.importing.proofs.lines.put_lines.Lts as lts
 use Rattle.importing.proofs.lines.put_record.Reads as put-record-reads
 
 abbrev Inv-loop : tie.InvT-loop
-Inv-loop out₀ w s codes count₀ k₀ at₀ out count k at = (at ≤ length s) × (count ≤ at) × (length out ≡ length out₀) × Taken codes (drop at s)
+Inv-loop out₀ w s codes count₀ k₀ at₀ out count k at = (at ≤ length s) × (count ≤ at) × (length out ≡ length out₀)
+    × Taken codes (drop at s)
     × (count + length (rowsOf codes (drop at s)) ≡ length (rowsOf codes s))
     × (k + length (rowsOctets (rowsOf codes (drop at s))) ≡ w + length (rowsOctets (rowsOf codes s)))
     × (splice out k (rowsOctets (rowsOf codes (drop at s))) ≡ splice out₀ w (rowsOctets (rowsOf codes s)))
@@ -35,7 +36,16 @@ loop-less : tie.Need-loop-less Inv-loop μ-loop
 loop-less c = search (needs, linesPutting, linesPut)
 
 loop-again : tie.Need-loop-again Inv-loop μ-loop
-loop-again c = (search put-end, search put-more, search put-kept, search put-taken, search put-count, search put-rest, search put-step)
+loop-again c = (
+  search put-end,
+  search put-more,
+  search put-kept,
+  search put-taken,
+  search put-count,
+  search put-rest,
+  search
+      put-step,
+)
 
 same-length : tie.Need-same-length Inv-loop μ-loop
 same-length c = search (needs, linesPutting, linesPut)

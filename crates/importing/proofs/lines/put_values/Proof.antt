@@ -4,7 +4,8 @@ use lib.ListN.{length, drop}
 use Rattle.octets.specs.Splice.{splice}
 use Rattle.entry.specs.Present.{marks}
 use Rattle.entry.specs.Record.{valuesOf}
-use Rattle.importing.specs.LineCases.{fieldThere, valuesPutting, valuesDone, bound-next, values-rest, values-kept, values-step, bits-step, bits-kept}
+use Rattle.importing.specs.LineCases.{fieldThere, valuesPutting, valuesDone, bound-next, values-rest, values-kept}
+use Rattle.importing.specs.LineCases.{values-step, bits-step, bits-kept}
 use Rattle.importing.specs.LineCases.{long-rest}
 use Rattle.importing.specs.Fields.{laidRow, lineLong}
 use Rattle.importing.specs.Marked.{marksOn}
@@ -18,7 +19,8 @@ use Rattle.importing.proofs.fields.put_value.Reads as put-value-reads
 use Rattle.importing.proofs.lines.mark.Reads as mark-reads
 
 abbrev Inv-loop : tie.InvT-loop
-Inv-loop out₀ at s from codes bits₀ k₀ i₀ j₀ out bits k i j = (j ≤ length codes) × (length out ≡ length out₀) × (length bits ≡ 2) × (i + lineLong (drop j codes) (drop i s) ≤ length s)
+Inv-loop out₀ at s from codes bits₀ k₀ i₀ j₀ out bits k i j = (j ≤ length codes) × (length out ≡ length out₀)
+    × (length bits ≡ 2) × (i + lineLong (drop j codes) (drop i s) ≤ length s)
     × (i + lineLong (drop j codes) (drop i s) ≡ from + lineLong codes (drop from s))
     × (k + length (valuesOf (laidRow (drop j codes) (drop i s))) ≡ at + length (valuesOf (laidRow codes (drop from s))))
     × (splice out k (valuesOf (laidRow (drop j codes) (drop i s)))
@@ -68,7 +70,16 @@ loop-less : tie.Need-loop-less Inv-loop μ-loop
 loop-less c = search (needs, fieldThere, valuesPutting, valuesDone)
 
 loop-again : tie.Need-loop-again Inv-loop μ-loop
-loop-again c = (search needs, search values-kept, search bits-kept, search bound-next, search long-rest, search values-rest, search values-step, search bits-step)
+loop-again c = (
+  search needs,
+  search values-kept,
+  search bits-kept,
+  search bound-next,
+  search long-rest,
+  search values-rest,
+  search values-step,
+  search bits-step,
+)
 
 add-t25 : tie.Need-add-t25 Inv-loop μ-loop
 add-t25 c = search (needs, fieldThere, valuesPutting, valuesDone)
