@@ -47,7 +47,7 @@ pub extern "C" fn wt_from_sheet(
         × (now (book .exit) ≡ fromOctets (now (text .entry)) (now (flags .entry)) (now (htags .entry))
         (now (hflags .entry)) (now (offered .entry)) (now (book .entry))) ⌝ }
 {
-    let made = importing::from_sheet(text, flags, htags, hflags, offered, book);
-    *out = made_numbers(made);
-    made_number(made)
+    let written = importing::from_sheet(text, flags, htags, hflags, offered, book);
+    *out = made_numbers(written);
+    made_number(written)
 }
