@@ -1,6 +1,6 @@
 -- The ways of the code that goes over a field and lays its value down, on plain values.
 use Prim.Native.Nat.{ℕ, zero, suc, _+_, _-_, _*_, _/_, _%_, _≤_, _<_}
-use native.Mathlib.Nat.{add-zero}
+use native.Mathlib.Nat.{add-zero, zero-add}
 use native.Mathlib.Omega.{arith}
 use mathlib.Core.Path.{_≡_, refl, sym, ap, _∙_}
 use mathlib.Core.Bool.{Bool, true, false, not, cond}
@@ -8,9 +8,9 @@ use mathlib.Core.Option.{none, some}
 use mathlib.Core.List.{List, [], _∷_, _++_}
 use lib.Arith.{digits-mod}
 use lib.Dec.{eqb}
-use lib.ListN.{length, take, drop, getD, set, length-append, drop-of-length-le}
-use lib.Seq.{take-all}
-use borrow.Author.Tests.{eq-eqb, ne-eqb}
+use lib.ListN.{length, take, drop, getD, set, length-append, length-drop, drop-of-length-le}
+use lib.Seq.{take-all, drop-drop, getD-drop}
+use borrow.Author.Tests.{eq-eqb, ne-eqb, eqb-true}
 use Rattle.octets.specs.Octets.{octetAt, drop-next}
 use Rattle.octets.specs.Splice.{splice, splice-nil, stored, stored-in}
 use Rattle.octets.specs.Stores.{splice-one, laid, laid-long}
@@ -18,68 +18,189 @@ use Rattle.whole.specs.Number.{encodeNumber}
 use Rattle.entry.specs.Values.{entryOctets}
 use Rattle.sheet.specs.Digits.{numberFrom, numberIn}
 use Rattle.sheet.specs.Field.{isMark}
+use Rattle.sheet.specs.Marks.{mark-quote, no-mark}
 use Rattle.sheet.specs.Reading.{unquoted, contentIn}
-use Rattle.importing.specs.Fields.{endsBy, insideBy, fieldLong, isQuoted, unreadBy, readBy, laidFrom}
+use Rattle.importing.specs.Fields.{endsBy, insideBy, plainLong, quotedLong, fieldLong, isQuoted, unreadBy, readBy}
+use Rattle.importing.specs.Fields.{laidFrom}
 
 -- ---- the end of a field
 
-pub ends-quote : (q : Bool) (x : ℕ) → x ≡ 34 → false ≡ endsBy q x
-unfolding endsBy
-ends-quote q x e = rw (eq-eqb x 34 e)
+mark-stops : (x : ℕ) (xs : List ℕ) → isMark x ≡ true → plainLong (x ∷ xs) ≡ 0
+unfolding plainLong
+mark-stops x xs e = rw e
 
-pub ends-inside : (q : Bool) (x : ℕ) → (x ≡ 34 → ⊥) → q ≡ true → false ≡ endsBy q x
-unfolding endsBy
-ends-inside q x n e = rw (ne-eqb x 34 n, e)
+mark-on : (x : ℕ) (xs : List ℕ) → isMark x ≡ false → plainLong (x ∷ xs) ≡ suc (plainLong xs)
+unfolding plainLong
+mark-on x xs e = rw e
 
-pub ends-outside : (q : Bool) (x : ℕ) (r : Bool) → (x ≡ 34 → ⊥) → q ≡ false → r ≡ isMark x → r ≡ endsBy q x
-unfolding endsBy
-ends-outside q x r n e z = rw (ne-eqb x 34 n, e) z
+quote-stops : (x : ℕ) (xs : List ℕ) → x ≡ 34 → quotedLong (x ∷ xs) ≡ 0
+unfolding quotedLong
+quote-stops x xs e = rw (eq-eqb x 34 e)
 
-pub inside-turns : (q : Bool) (x : ℕ) → x ≡ 34 → not q ≡ insideBy q x
-unfolding insideBy
-inside-turns q x e = rw (eq-eqb x 34 e)
+quote-goes : (x : ℕ) (xs : List ℕ) → (x ≡ 34 → ⊥) → quotedLong (x ∷ xs) ≡ suc (quotedLong xs)
+unfolding quotedLong
+quote-goes x xs e = rw (ne-eqb x 34 e)
 
-pub inside-stays : (q : Bool) (x : ℕ) → (x ≡ 34 → ⊥) → q ≡ insideBy q x
-unfolding insideBy
-inside-stays q x n = rw (ne-eqb x 34 n)
+none-plain : (s : List ℕ) (i : ℕ) → length s ≤ i → plainLong (drop i s) ≡ 0
+unfolding plainLong
+none-plain s i h = rw (drop-of-length-le s {i = i} h)
 
-pub ruleset endsCases = (ends-quote, ends-inside, ends-outside, inside-turns, inside-stays)
+none-quoted : (s : List ℕ) (i : ℕ) → length s ≤ i → quotedLong (drop i s) ≡ 0
+unfolding quotedLong
+none-quoted s i h = rw (drop-of-length-le s {i = i} h)
 
-long-stop : (q : Bool) (x : ℕ) (xs : List ℕ) → endsBy q x ≡ true → fieldLong q (x ∷ xs) ≡ 0
-unfolding fieldLong
-long-stop q x xs e = rw e
-
-long-on : (q : Bool) (x : ℕ) (xs : List ℕ) → endsBy q x ≡ false
-    → fieldLong q (x ∷ xs) ≡ suc (fieldLong (insideBy q x) xs)
-unfolding fieldLong
-long-on q x xs e = rw e
-
-long-none : (q : Bool) (s : List ℕ) (i : ℕ) → length s ≤ i → fieldLong q (drop i s) ≡ 0
-unfolding fieldLong
-long-none q s i h = rw (drop-of-length-le s {i = i} h)
-
--- at i of s, which field began at `at`
-module _ (s : List ℕ) (at i : ℕ) (q : Bool)
-    (inv : i + fieldLong q (drop i s) ≡ at + fieldLong false (drop at s)) where
-  module _ (h : i < length s) (t : Bool) (e : t ≡ endsBy q (getD s i 0)) where
-    pub field-stops : t ≡ true → i ≡ at + fieldLong false (drop at s)
-    field-stops z =
-        let a = ap (fieldLong q) (drop-next s i h) ∙ long-stop q (getD s i 0) (drop (i + 1) s) (sym e ∙ z) in
+module _ (s : List ℕ) (at i : ℕ) (inv : i + plainLong (drop i s) ≡ at + plainLong (drop at s)) where
+  module _ (h : i < length s) (t : Bool) (e : t ≡ isMark (getD s i 0)) where
+    pub plain-stops : t ≡ true → i ≡ at + plainLong (drop at s)
+    plain-stops z =
+        let a = ap plainLong (drop-next s i h) ∙ mark-stops (getD s i 0) (drop (i + 1) s) (sym e ∙ z) in
         omega arith
 
-    pub field-goes : (b : Bool) → t ≡ false → b ≡ insideBy q (getD s i 0)
-        → i + 1 + fieldLong b (drop (i + 1) s) ≡ at + fieldLong false (drop at s)
-    field-goes b z y =
-        let a = ap (fieldLong q) (drop-next s i h) ∙ long-on q (getD s i 0) (drop (i + 1) s) (sym e ∙ z) in
-        rw y (omega arith)
+    pub plain-goes : t ≡ false → i + 1 + plainLong (drop (i + 1) s) ≡ at + plainLong (drop at s)
+    plain-goes z =
+        let a = ap plainLong (drop-next s i h) ∙ mark-on (getD s i 0) (drop (i + 1) s) (sym e ∙ z) in
+        omega arith
+
+  pub plain-ends : length s ≤ i → i ≡ at + plainLong (drop at s)
+  plain-ends h = let a = none-plain s i h in omega arith
+
+pub ruleset plainEnd = (plain-stops, plain-goes, plain-ends)
+
+module _ (s : List ℕ) (at i : ℕ) (inv : i + quotedLong (drop i s) ≡ at + quotedLong (drop at s)) where
+  module _ (h : i < length s) where
+    pub quoted-stops : getD s i 0 ≡ 34 → i ≡ at + quotedLong (drop at s)
+    quoted-stops z =
+        let a = ap quotedLong (drop-next s i h) ∙ quote-stops (getD s i 0) (drop (i + 1) s) z in
+        omega arith
+
+    pub quoted-goes : (getD s i 0 ≡ 34 → ⊥) → i + 1 + quotedLong (drop (i + 1) s) ≡ at + quotedLong (drop at s)
+    quoted-goes z =
+        let a = ap quotedLong (drop-next s i h) ∙ quote-goes (getD s i 0) (drop (i + 1) s) z in
+        omega arith
+
+  pub quoted-ends : length s ≤ i → i ≡ at + quotedLong (drop at s)
+  quoted-ends h = let a = none-quoted s i h in omega arith
+
+pub ruleset quoteFrom = (quoted-stops, quoted-goes, quoted-ends)
+
+-- over what is no mark, and within quotes over what is no quote, a field goes on
+over-plain : (xs : List ℕ) → fieldLong false xs ≡ plainLong xs + fieldLong false (drop (plainLong xs) xs)
+unfolding plainLong fieldLong endsBy insideBy
+over-plain [] = refl
+over-plain (x ∷ xs) = go (isMark x) refl (over-plain xs)
+  where
+    go : (b : Bool) → isMark x ≡ b
+        → fieldLong false xs ≡ plainLong xs + fieldLong false (drop (plainLong xs) xs)
+        → fieldLong false (x ∷ xs) ≡ cond b 0 (suc (plainLong xs))
+        + fieldLong false (drop (cond b 0 (suc (plainLong xs))) (x ∷ xs))
+    go true e ih = sym (zero-add (fieldLong false (x ∷ xs)))
+    go false e ih =
+        let a : eqb x 34 ≡ false = no-mark x 34 e mark-quote in
+        rw (a, e) (let n = plainLong xs in omega arith)
+
+over-quoted : (xs : List ℕ) → fieldLong true xs ≡ quotedLong xs + fieldLong true (drop (quotedLong xs) xs)
+unfolding quotedLong fieldLong endsBy insideBy
+over-quoted [] = refl
+over-quoted (x ∷ xs) = go (eqb x 34) refl (over-quoted xs)
+  where
+    go : (b : Bool) → eqb x 34 ≡ b
+        → fieldLong true xs ≡ quotedLong xs + fieldLong true (drop (quotedLong xs) xs)
+        → fieldLong true (x ∷ xs) ≡ cond b 0 (suc (quotedLong xs))
+        + fieldLong true (drop (cond b 0 (suc (quotedLong xs))) (x ∷ xs))
+    go true e ih = sym (zero-add (fieldLong true (x ∷ xs)))
+    go false e ih = rw e (omega arith)
+
+-- where the plain run ends stands a mark
+mark-there : (xs : List ℕ) → plainLong xs < length xs → isMark (getD xs (plainLong xs) 0) ≡ true
+unfolding plainLong
+mark-there [] h = absurd (omega arith)
+mark-there (x ∷ xs) h = go (isMark x) refl h (λ l. mark-there xs l)
+  where
+    go : (b : Bool) → isMark x ≡ b → cond b 0 (suc (plainLong xs)) < suc (length xs)
+        → (plainLong xs < length xs → isMark (getD xs (plainLong xs) 0) ≡ true)
+        → isMark (getD (x ∷ xs) (cond b 0 (suc (plainLong xs))) 0) ≡ true
+    go true e l f = e
+    go false e l f = f (omega arith)
+
+quote-there : (xs : List ℕ) → quotedLong xs < length xs → getD xs (quotedLong xs) 0 ≡ 34
+unfolding quotedLong
+quote-there [] h = absurd (omega arith)
+quote-there (x ∷ xs) h = go (eqb x 34) refl h (λ l. quote-there xs l)
+  where
+    go : (b : Bool) → eqb x 34 ≡ b → cond b 0 (suc (quotedLong xs)) < suc (length xs)
+        → (quotedLong xs < length xs → getD xs (quotedLong xs) 0 ≡ 34)
+        → getD (x ∷ xs) (cond b 0 (suc (quotedLong xs))) 0 ≡ 34
+    go true e l f = eqb-true x 34 e
+    go false e l f = f (omega arith)
+
+-- what is known where a plain run has ended: the field goes on from there, and a mark stands there or nothing
+pub record At (s : List ℕ) (at i : ℕ) : Type 0 where
+  pub long : i + fieldLong false (drop i s) ≡ at + fieldLong false (drop at s)
+  pub mark : i < length s → isMark (getD s i 0) ≡ true
+
+at-mark : (s : List ℕ) (i r : ℕ) → i ≤ length s → r ≡ i + plainLong (drop i s) → r < length s
+    → isMark (getD s r 0) ≡ true
+at-mark s i r l e h =
+    let a = length-drop i s in
+    rw e (rw (getD-drop i s (plainLong (drop i s)) 0) at (mark-there (drop i s) (omega arith)))
+
+on-to : (s : List ℕ) (i r : ℕ) → r ≡ i + plainLong (drop i s)
+    → r + fieldLong false (drop r s) ≡ i + fieldLong false (drop i s)
+on-to s i r e =
+    let a = over-plain (drop i s) in
+    let b = ap (fieldLong false) (drop-drop (plainLong (drop i s)) i s) in
+    rw e (omega arith)
+
+pub at-first : (s : List ℕ) (at r : ℕ) → at ≤ length s → r ≡ at + plainLong (drop at s) → At s at r
+at-first s at r l e = record { long = on-to s at r e; mark = λ h. at-mark s at r l e h }
+
+stop-long : (x : ℕ) (xs : List ℕ) → isMark x ≡ true → (x ≡ 34 → ⊥) → fieldLong false (x ∷ xs) ≡ 0
+unfolding fieldLong endsBy
+stop-long x xs m n = rw (ne-eqb x 34 n, m)
+
+turn-long : (q : Bool) (x : ℕ) (xs : List ℕ) → x ≡ 34 → fieldLong q (x ∷ xs) ≡ suc (fieldLong (not q) xs)
+unfolding fieldLong endsBy insideBy
+turn-long q x xs e = rw (eq-eqb x 34 e)
+
+nothing-long : (q : Bool) (s : List ℕ) (i : ℕ) → length s ≤ i → fieldLong q (drop i s) ≡ 0
+unfolding fieldLong
+nothing-long q s i h = rw (drop-of-length-le s {i = i} h)
+
+module _ (s : List ℕ) (at i : ℕ) (k : At s at i) where
+  module _ (h : i < length s) where
+    pub field-stops : (getD s i 0 ≡ 34 → ⊥) → i ≡ at + fieldLong false (drop at s)
+    field-stops n =
+        let a = ap (fieldLong false) (drop-next s i h) ∙ stop-long (getD s i 0) (drop (i + 1) s) (k .mark h) n in
+        let b = k .long in
+        omega arith
+
+    module _ (q : getD s i 0 ≡ 34) (c : ℕ) (e : c ≡ i + 1 + quotedLong (drop (i + 1) s)) where
+      inner : at + fieldLong false (drop at s) ≡ c + fieldLong true (drop c s)
+      inner =
+          let a = ap (fieldLong false) (drop-next s i h) ∙ turn-long false (getD s i 0) (drop (i + 1) s) q in
+          let b = k .long in
+          let d = over-quoted (drop (i + 1) s) in
+          let f = ap (fieldLong true) (drop-drop (quotedLong (drop (i + 1) s)) (i + 1) s) in
+          rw e (omega arith)
+
+      pub field-open : length s ≤ c → c ≡ at + fieldLong false (drop at s)
+      field-open l = let a = inner in let b = nothing-long true s c l in omega arith
+
+      pub field-next : c < length s → (r : ℕ) → r ≡ c + 1 + plainLong (drop (c + 1) s) → At s at r
+      field-next l r z =
+          let m : quotedLong (drop (i + 1) s) < length (drop (i + 1) s) =
+          (let a = length-drop (i + 1) s in omega arith) in
+          let g : getD s c 0 ≡ 34 =
+          rw e (rw (getD-drop (i + 1) s (quotedLong (drop (i + 1) s)) 0) at (quote-there (drop (i + 1) s) m)) in
+          let a = ap (fieldLong true) (drop-next s c l) ∙ turn-long true (getD s c 0) (drop (c + 1) s) g in
+          let b = inner in
+          let f = on-to s (c + 1) r z in
+          record { long = omega arith; mark = λ x. at-mark s (c + 1) r (omega arith) z x }
 
   pub field-ends : length s ≤ i → i ≡ at + fieldLong false (drop at s)
-  field-ends h = let a = long-none q s i h in omega arith
+  field-ends h = let a = nothing-long false s i h in let b = k .long in omega arith
 
-pub field-starts : (s : List ℕ) (at : ℕ) → at + fieldLong false (drop at s) ≡ at + fieldLong false (drop at s)
-field-starts s at = refl
-
-pub ruleset fieldEnd = (field-stops, field-goes, field-ends, field-starts)
+pub ruleset fieldEnd = (at-first, field-stops, field-open, field-next, field-ends)
 
 -- ---- what it holds
 

@@ -27,6 +27,15 @@ fieldLong q [] = 0
 fieldLong q (x ∷ xs) =
     cond (endsBy q x) 0 (suc (fieldLong (insideBy q x) xs))
 
+-- up to the first mark, and up to the first quote
+unfoldable pub plainLong : List ℕ → ℕ
+plainLong [] = 0
+plainLong (x ∷ xs) = cond (isMark x) 0 (suc (plainLong xs))
+
+unfoldable pub quotedLong : List ℕ → ℕ
+quotedLong [] = 0
+quotedLong (x ∷ xs) = cond (eqb x quote) 0 (suc (quotedLong xs))
+
 abbrev pub fieldIn : List ℕ → List ℕ
 fieldIn xs = take (fieldLong false xs) xs
 

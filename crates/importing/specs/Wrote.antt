@@ -15,7 +15,7 @@ use Rattle.octets.specs.Octets.{Octets}
 use Rattle.octets.specs.Splice.{stored, stored-in, length-stored}
 use Rattle.octets.specs.Stores.{front-stored}
 use Rattle.octets.specs.Word.{wordOf}
-use Rattle.answers.specs.Numbers.{breaksRule, breaksForm, cutShort, wrongSize, mostOpened}
+use Rattle.answers.specs.Numbers.{breaksRule, breaksForm, cutShort, wrongSize}
 use Rattle.answers.specs.declared.Verdict.{Verdict}
 use Rattle.answers.specs.declared.Verdict.the-variants.{Clear as clear, Refused}
 use Rattle.answers.specs.Verdict.{_then_, need, apart, unmet}

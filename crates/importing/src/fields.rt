@@ -14,31 +14,38 @@ ghost use Rattle.octets.specs.Splice.{splice};
 ghost use Rattle.entry.specs.Values.{entryOctets};
 ghost use Rattle.sheet.specs.Digits.{numberIn};
 ghost use Rattle.sheet.specs.Reading.{unquoted, contentIn};
-ghost use Rattle.importing.specs.Fields.{endsBy, insideBy, fieldLong, isQuoted, unreadBy, readBy, laidFrom};
+ghost use Rattle.importing.specs.Fields.{plainLong, quotedLong, fieldLong, isQuoted, unreadBy, readBy, laidFrom};
 
 // ---- where it ends
 
-// Whether x ends a field; `inside` says that it stands within quotes.
-fn ends_field(inside: bool, x: u8) -> bool
-    ensures { λ r. ⌜ r ≡ endsBy inside x ⌝ }
+// The first mark from `at` on, or the end of `s`.
+fn plain_end(s: &[u8], at: usize) -> usize
+    requires { ⌜ at ≤ length (now s) ⌝ }
+    ensures { λ r. ⌜ (r ≡ at + plainLong (drop at (now (s .entry)))) × (r ≤ length (now (s .entry))) ⌝ }
 {
-    if x == QUOTE {
-        return false;
+    let mut i = at;
+    while i < s.len() {
+        if is_mark(s[i]) {
+            return i;
+        }
+        i += 1;
     }
-    if inside {
-        return false;
-    }
-    is_mark(x)
+    i
 }
 
-// Whether what follows x stands within quotes.
-fn goes_inside(inside: bool, x: u8) -> bool
-    ensures { λ r. ⌜ r ≡ insideBy inside x ⌝ }
+// The first quote from `at` on, or the end of `s`.
+fn quote_from(s: &[u8], at: usize) -> usize
+    requires { ⌜ at ≤ length (now s) ⌝ }
+    ensures { λ r. ⌜ (r ≡ at + quotedLong (drop at (now (s .entry)))) × (r ≤ length (now (s .entry))) ⌝ }
 {
-    if x == QUOTE {
-        return !inside;
+    let mut i = at;
+    while i < s.len() {
+        if s[i] == QUOTE {
+            return i;
+        }
+        i += 1;
     }
-    inside
+    i
 }
 
 // The first mark outside quotes from `at` on, or the end of `s`.
@@ -46,14 +53,16 @@ pub fn field_end(s: &[u8], at: usize) -> usize
     requires { ⌜ at ≤ length (now s) ⌝ }
     ensures { λ r. ⌜ (r ≡ at + fieldLong false (drop at (now (s .entry)))) × (r ≤ length (now (s .entry))) ⌝ }
 {
-    let mut i = at;
-    let mut inside = false;
+    let mut i = plain_end(s, at);
     while i < s.len() {
-        if ends_field(inside, s[i]) {
+        if s[i] != QUOTE {
             return i;
         }
-        inside = goes_inside(inside, s[i]);
-        i += 1;
+        let close = quote_from(s, i + 1);
+        if s.len() <= close {
+            return close;
+        }
+        i = plain_end(s, close + 1);
     }
     i
 }

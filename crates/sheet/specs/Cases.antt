@@ -1,6 +1,6 @@
 -- The ways of the code that tells marks and types, on plain values.
 use Prim.Native.Nat.{ℕ, _+_, _≤_, _<_, _%_}
-use mathlib.Core.Path.{_≡_, _∙_}
+use mathlib.Core.Path.{_≡_, sym, _∙_}
 use mathlib.Core.Bool.{Bool, true, false, not}
 use mathlib.Core.List.{List}
 use lib.Dec.{eqb}
@@ -8,7 +8,10 @@ use lib.ListN.{length, drop, getD, drop-of-length-le}
 use borrow.Author.Tests.{ne-eqb, not-true, not-false}
 use Rattle.octets.specs.Octets.{drop-next}
 use Rattle.sheet.specs.Field.{isMark, isExported, allExported}
-use Rattle.sheet.specs.Marks.{last-test}
+use Rattle.sheet.specs.Marks.{last-test, far-plain}
+
+pub is-past : (x : ℕ) → 44 < x → false ≡ isMark x
+is-past x h = sym (far-plain x h)
 
 pub is-comma : (x : ℕ) → x ≡ 44 → true ≡ isMark x
 unfolding isMark
@@ -26,7 +29,7 @@ pub is-lf : (x : ℕ) → (x ≡ 44 → ⊥) → (x ≡ 34 → ⊥) → (x ≡ 1
 unfolding isMark
 is-lf x a b c = rw (ne-eqb x 44 a, ne-eqb x 34 b, ne-eqb x 13 c) (last-test (eqb x 10))
 
-pub ruleset markCases = (is-comma, is-quote, is-cr, is-lf)
+pub ruleset markCases = (is-past, is-comma, is-quote, is-cr, is-lf)
 
 pub exported-number : (x : ℕ) → x ≡ 3 → true ≡ isExported x
 unfolding isExported

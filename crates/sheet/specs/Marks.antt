@@ -44,7 +44,7 @@ marked-snoc (y ∷ s) x h k = go (isMark y) h (λ z. marked-snoc s x z k)
 
 -- ---- digits need no quotes
 
-far-plain : (x : ℕ) → 45 ≤ x → isMark x ≡ false
+pub far-plain : (x : ℕ) → 45 ≤ x → isMark x ≡ false
 unfolding isMark
 far-plain x k =
     rw

@@ -13,6 +13,9 @@ pub const LF: u8 = 10;
 pub fn is_mark(x: u8) -> bool
     ensures { λ r. ⌜ r ≡ isMark x ⌝ }
 {
+    if COMMA < x {
+        return false;
+    }
     if x == COMMA {
         return true;
     }
