@@ -5,7 +5,7 @@ use mathlib.Core.List.{List, [], _∷_, _++_}
 use lib.ListN.{length}
 use Rattle.answers.specs.declared.Verdict.{Verdict}
 use Rattle.answers.specs.declared.Verdict.the-variants.{Clear as clear, Refused}
-use Rattle.answers.specs.Verdict.{_then_, apart, then-assoc}
+use Rattle.answers.specs.Verdict.{_then_, apart, then-assoc, joins, then-clear}
 use Rattle.framing.specs.Frame.{finishAt, finishOctets}
 use Rattle.drafting.specs.Run.{Call, verdictOf}
 use Rattle.drafting.specs.Written.{Stand, after, run, inOne}
@@ -51,15 +51,6 @@ writtenOctets cs s = let t : Stand = callsLeave cs s in finishOctets (t .state) 
 pub record Answers (cs : List Call) (v : Verdict) (P : Stand → Type 0) (s : Stand) : Type 0 where
   pub verdict : callsVerdict cs s ≡ v
   pub leaves : v ≡ clear → P (callsLeave cs s)
-
--- a verdict by cases: refused at once, or clear and then the same
-pub joins : (v x y : Verdict) → (v ≡ clear → x ≡ y) → v then x ≡ v then y
-joins clear x y f = f refl
-joins (Refused r) x y f = refl
-
-then-clear : (v : Verdict) → v then clear ≡ v
-then-clear clear = refl
-then-clear (Refused r) = refl
 
 pub answers-one : (c : Call) (v : Verdict) (P : Stand → Type 0) (s : Stand) → verdictOf c (s .state) (s .octets) ≡ v
     → (v ≡ clear → P (after c s)) → Answers (c ∷ []) v P s

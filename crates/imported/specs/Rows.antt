@@ -12,7 +12,7 @@ use Rattle.octets.specs.Splice.{stored}
 use Rattle.answers.specs.Numbers.{breaksRule}
 use Rattle.answers.specs.declared.Verdict.{Verdict}
 use Rattle.answers.specs.declared.Verdict.the-variants.{Clear as clear}
-use Rattle.answers.specs.Verdict.{_then_, need, apart, then-assoc}
+use Rattle.answers.specs.Verdict.{_then_, need, apart, then-assoc, joins}
 use Rattle.table.specs.Table.{Column}
 use Rattle.table.specs.Columns.{tagsOf}
 use Rattle.entry.specs.Present.{Row}
@@ -32,7 +32,7 @@ use Rattle.importing.specs.Given.{recordGiven, rowsGiven}
 use Rattle.importing.specs.From.{callsAt}
 use Rattle.importing.specs.Fitting.{FreeRows}
 use Rattle.imported.specs.Calls.{callsVerdict, callsLeave, writtenVerdict, writtenOctets}
-use Rattle.imported.specs.Calls.{Answers, joins, answers-append}
+use Rattle.imported.specs.Calls.{Answers, answers-append}
 use Rattle.imported.specs.Record.{Closed, record-answers}
 
 -- ---- the rows

@@ -19,7 +19,7 @@ use Rattle.answers.specs.Padded.{padded, padded-long}
 use Rattle.answers.specs.declared.Refusal.{Refusal}
 use Rattle.answers.specs.declared.Verdict.{Verdict}
 use Rattle.answers.specs.declared.Verdict.the-variants.{Clear as clear, Refused}
-use Rattle.answers.specs.Verdict.{refused, _then_, need, apart, unmet, no-clear, kept}
+use Rattle.answers.specs.Verdict.{refused, _then_, need, apart, unmet, no-clear, kept, joins}
 use Rattle.answers.specs.declared.Walk.{Walk}
 use Rattle.answers.specs.declared.Walk.the-variants.{Ends, Broken}
 use Rattle.answers.specs.declared.Made.{Made}
@@ -173,11 +173,6 @@ asked-is tags flags width s e =
         let t = text-sound fits (codesOf tags) s n q in
         q ∙ ap Ends (t .ends ∙ zero-add (length s))
     go (Broken p) q z = no-clear z
-
--- a verdict by cases: refused at once, or clear and then the same
-joins : (v x y : Verdict) → (v ≡ clear → x ≡ y) → v then x ≡ v then y
-joins clear x y f = f refl
-joins (Refused r) x y f = refl
 
 -- ---- the records
 

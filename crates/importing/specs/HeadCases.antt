@@ -17,7 +17,7 @@ use Rattle.answers.specs.Padded.{padded, padded-long, padded-more}
 use Rattle.answers.specs.declared.Refusal.{Refusal}
 use Rattle.answers.specs.declared.Verdict.{Verdict}
 use Rattle.answers.specs.declared.Verdict.the-variants.{Clear as clear, Refused}
-use Rattle.answers.specs.Verdict.{refused, _then_}
+use Rattle.answers.specs.Verdict.{refused, _then_, then-clear}
 use Rattle.answers.specs.declared.Walk.{Walk}
 use Rattle.answers.specs.declared.Walk.the-variants.{Ends, Broken}
 use Rattle.presence.specs.Presence.{room}
@@ -204,10 +204,6 @@ module _ (kind : ℕ) (v : List ℕ) (w n : ℕ) (r : Number) (e : r ≡ whole.n
         ∙ rw q at list-is
 
 pub ruleset listCases = (list-none, list-within, list-refused, list-fits, list-next)
-
-then-clear : (v : Verdict) → v then clear ≡ v
-then-clear clear = refl
-then-clear (Refused r) = refl
 
 module _ (form : ℕ) (v : List ℕ) (w n : ℕ) (x : Verdict) where
   pub value-one : form < 5 → x ≡ roomAt w n (length v) → x ≡ piecesAt w n (piecesOf (formAt form) v)

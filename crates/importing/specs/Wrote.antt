@@ -18,7 +18,7 @@ use Rattle.octets.specs.Word.{wordOf}
 use Rattle.answers.specs.Numbers.{breaksRule, breaksForm, cutShort, wrongSize}
 use Rattle.answers.specs.declared.Verdict.{Verdict}
 use Rattle.answers.specs.declared.Verdict.the-variants.{Clear as clear, Refused}
-use Rattle.answers.specs.Verdict.{_then_, need, apart, unmet}
+use Rattle.answers.specs.Verdict.{_then_, need, apart, unmet, then-clear}
 use Rattle.presence.specs.Presence.{room}
 use Rattle.value.specs.Types.{numberOf, formOf}
 use Rattle.table.specs.Table.{Column, codeOf}
@@ -136,10 +136,6 @@ offered-long ss hrec e =
     let x = leb-true (4 + room (length ss)) (wordOf 4 hrec) (unmet _ wrongSize 0 (c₂ .0)) in
     let y = leb-true (wordOf 4 hrec) (length hrec) (unmet _ wrongSize 0 (c₃ .0)) in
     omega arith
-
-then-clear : (v : Verdict) → v then clear ≡ v
-then-clear clear = refl
-then-clear (Refused r) = refl
 
 -- what the code finds is what the table says
 pub head-given : (forms hrec : List ℕ) (w n : ℕ) → HeadIs (slotsFrom forms []) hrec
