@@ -4,7 +4,7 @@ use mathlib.Core.Path.{_≡_, refl, ap, _∙_}
 use mathlib.Core.List.{List, [], _∷_, _++_}
 use lib.ListN.{length}
 use Rattle.answers.specs.declared.Verdict.{Verdict}
-use Rattle.answers.specs.declared.Verdict.the-variants.{Clear as clear, Refused}
+use Rattle.answers.specs.declared.Verdict.the-variants.{Clear as clear}
 use Rattle.answers.specs.Verdict.{_then_, apart, then-assoc, joins, then-clear}
 use Rattle.framing.specs.Frame.{finishAt, finishOctets}
 use Rattle.drafting.specs.Run.{Call, verdictOf}
