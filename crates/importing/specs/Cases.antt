@@ -22,6 +22,7 @@ use Rattle.answers.specs.declared.Verdict.the-variants.{Clear as clear, Refused
 use Rattle.answers.specs.Verdict.{refused, _then_, need, apart, unmet, no-clear, kept, joins}
 use Rattle.answers.specs.declared.Walk.{Walk}
 use Rattle.answers.specs.declared.Walk.the-variants.{Ends, Broken}
+use Rattle.answers.specs.Walk.{no-end}
 use Rattle.answers.specs.declared.Made.{Made}
 use Rattle.answers.specs.declared.Made.the-variants as made
 use Rattle.answers.specs.Made.{answered}
@@ -505,15 +506,12 @@ by-head {X} text first e f g = go (headIn text) refl e
         (ap (λ (x : FirstLine). x .count) z)
     go (fault p) q z = f p q (ap (λ (x : FirstLine). x .walk) z)
 
-unlike-walks : {X : Type 0} {a b : ℕ} → Broken a ≡ Ends b → X
-unlike-walks e = let z : _≡_ {A = ℕ} 0 1 = cc in absurd (omega arith)
-
 module _ (text flags ht hf hrec d : List ℕ) (first : FirstLine) (e : first ≡ firstLineOf (headIn text)) where
   module _ (p : ℕ) (z : first .walk ≡ Broken p) where
     fault-is : headIn text ≡ fault p
     fault-is =
         by-head text first e (λ q h w. h ∙ ap fault (let y : Broken q ≡ Broken p = sym w ∙ z in cc))
-        (λ tags w h x a b. unlike-walks (sym z ∙ x))
+        (λ tags w h x a b. no-end (sym z ∙ x))
 
     pub first-refused : made.Refused (record { number = wrongSheet; place = p }) ≡ fromAnswer text flags ht hf hrec d
     unfolding fromAnswer fromAt
@@ -527,7 +525,7 @@ module _ (text flags ht hf hrec d : List ℕ) (first : FirstLine) (e : first ≡
     told : {X : Type 0} → ((tags : List ℕ) → headIn text ≡ tagsTo tags w
         → first .tags ≡ tags ++ replicate (16 - length tags) 0 → first .count ≡ length tags → X) → X
     told f =
-        by-head text first e (λ p h q. unlike-walks (sym q ∙ z))
+        by-head text first e (λ p h q. no-end (sym q ∙ z))
         (λ tags v h x a b. let y : Ends v ≡ Ends w = sym x
         ∙ z in let u : v ≡ w = cc in f tags (h ∙ ap (tagsTo tags) u) a b)
 

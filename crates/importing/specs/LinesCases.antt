@@ -95,10 +95,10 @@ missed true false keys = refl
 missed false true keys = refl
 missed false false keys = refl
 
-lineEnd : (held : Bool) (w n at : ℕ) → cond held (record { verdict = clear; written = w; end = at + 1 })
+line-close : (held : Bool) (w n at : ℕ) → cond held (record { verdict = clear; written = w; end = at + 1 })
     (noLine (refused breaksRule 0)) ≡ lineBy (need (cond held true false) breaksRule 0) (w + 0) (at + 1)
-lineEnd true w n at = ap (λ (m : ℕ). record { verdict = clear; written = m; end = at + 1 }) (sym (add-zero w))
-lineEnd false w n at = refl
+line-close true w n at = ap (λ (m : ℕ). record { verdict = clear; written = m; end = at + 1 }) (sym (add-zero w))
+line-close false w n at = refl
 
 abbrev Lines : List ℕ → List ℕ → Type 0
 Lines codes flags = (held : Bool) (w n at : ℕ) (xs : List ℕ) → Exported codes → w ≤ mostOctets → w ≤ n
@@ -164,7 +164,7 @@ module _ (c : ℕ) (cs flags : List ℕ) (ih : Lines cs (drop 1 flags)) (held : 
 
 line-given : (codes flags : List ℕ) → Lines codes flags
 unfolding lineFrom piecesAt rowPieces keysIn
-line-given [] flags held w n at xs h lim len = lineEnd held w n at
+line-given [] flags held w n at xs h lim len = line-close held w n at
 line-given (c ∷ cs) flags held w n at xs h lim len =
     by-entry c cs flags (line-given cs (drop 1 flags)) held w n at xs h lim len
     (laidFrom c (contentIn (fieldIn xs))) refl
