@@ -1,5 +1,6 @@
 // The header record as it is offered: one record to its last octet; and what the writer's calls would answer that give
 // it, value by value, a list by its count and then each element.
+use answers::MOST_COLUMNS;
 use answers::Verdict;
 use answers::Walk;
 use answers::refuse;
@@ -21,11 +22,11 @@ ghost use Rattle.importing.specs.Given.{elementsOf, piecesOf, piecesAt};
 ghost use Rattle.importing.specs.Head.{formsFor, offeredIn, columnGiven, nextGiven, headFrom, headGiven};
 
 // The form of each tag's values, 0 behind the last.
-pub fn forms_of(tags: &[u32]) -> [u8; 128]
+pub fn forms_of(tags: &[u32]) -> [u8; MOST_COLUMNS]
     requires { ⌜ length (now tags) ≤ mostColumns ⌝ }
     ensures { λ r. ⌜ r ≡ padded (formsFor (now (tags .entry))) ⌝ }
 {
-    let mut forms = [0u8; 128];
+    let mut forms = [0u8; MOST_COLUMNS];
     let mut i = 0;
     while i < tags.len() {
         forms[i] = value::form_of(tags[i]);

@@ -16,6 +16,7 @@ use head::judge_offered;
 use lines::Records;
 use lines::judge_lines;
 use lines::put_lines;
+use sheet::MOST_CHOSEN;
 use writing::Writing;
 ghost use mathlib.Core.Path.{_≡_};
 ghost use mathlib.Core.List.{[]};
@@ -36,11 +37,11 @@ ghost use Rattle.importing.specs.Steps.{codesFor, recordsAt, givenAt, re
 ghost use Rattle.importing.specs.Steps.{restAnswer, restOctets, frontPut, laidDown, closedBy};
 
 // The code of each tag's type, 0 behind the last.
-fn codes_of(tags: &[u32]) -> [u32; 16]
+fn codes_of(tags: &[u32]) -> [u32; MOST_CHOSEN]
     requires { ⌜ length (now tags) ≤ mostChosen ⌝ }
     ensures { λ r. ⌜ r ≡ codesFor (now (tags .entry)) ⌝ }
 {
-    let mut codes = [0u32; 16];
+    let mut codes = [0u32; MOST_CHOSEN];
     let mut i = 0;
     while i < tags.len() {
         codes[i] = tags[i] % 65536;
