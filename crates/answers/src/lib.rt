@@ -1,30 +1,31 @@
 // The answers' one vocabulary: a refusal is its number and its place, a verdict is clear or a refusal, a walk over a
 // value ends or breaks, what was made has a length.
 // Each refusal number and each house limit is named here, and nowhere else in code.
+#![tactic(auto)]
 ghost use Rattle.std.specs.Prelude.{◌≡◌};
 ghost use Rattle.answers.specs.Verdict.{refused};
 
-#[derive(Drop)]
+#[derive(Clone, Copy)]
 pub struct Refusal {
     pub number: u32,
     pub place: usize,
 }
 
-#[derive(Drop)]
+#[derive(Clone, Copy)]
 pub enum Verdict {
     Clear,
     Refused(Refusal),
 }
 
 // Counted from the value's start: the octet behind its last, or where it breaks.
-#[derive(Drop)]
+#[derive(Clone, Copy)]
 pub enum Walk {
     Ends(usize),
     Broken(usize),
 }
 
 // The length of what was made, or the refusal.
-#[derive(Drop)]
+#[derive(Clone, Copy)]
 pub enum Made {
     Done(usize),
     Refused(Refusal),

@@ -1,4 +1,5 @@
 // A value of a book set or cleared where the book stands. The book is judged first; a refused call changes no octet.
+#![tactic(auto)]
 ghost use Rattle.std.specs.Prelude.{◌≡◌, [], ◌+◌, ◌^◌, ◌≤◌, ◌<◌, length, take};
 ghost use Rattle.std.proofs.Math.Option.{none, some};
 ghost use Rattle.answers.specs.Numbers.{most_octets};
@@ -18,7 +19,7 @@ use lookup::Which;
 use table::{Columns, Found};
 
 // Where a value stands or would stand, and how long it is.
-#[derive(Drop)]
+#[derive(Clone, Copy)]
 struct Stretch {
     start: usize,
     long: usize,
@@ -72,7 +73,7 @@ fn find_cell(book: &[u8], at: usize, forms: &[u8], c: usize) -> Cell
 }
 
 // What is decided before anything is written: the verdict, the entry and the book's count. All is 0 behind a refusal.
-#[derive(Drop)]
+#[derive(Clone, Copy)]
 struct Plan {
     verdict: Verdict,
     cell: Cell,

@@ -1,5 +1,6 @@
 // Plays corrections from a stream: a line for each, with what the call answers and the serial of the whole buffer behind it.
 // The first octet of a case says which call it is. tests/make.py has the list and the lines' form.
+#![tactic(auto)]
 ghost use Rattle.std.specs.Prelude.{◌≤◌, length};
 
 use answers::Made;
@@ -54,7 +55,7 @@ fn fill(buf: &mut [u8]) {
 }
 
 // The length of the buffer and the stated length of the book.
-#[derive(Drop)]
+#[derive(Clone, Copy)]
 struct State {
     size: usize,
     stated: usize,
@@ -120,7 +121,7 @@ fn end_line(buf: &[u8], out: &mut [u8; 4096], at: usize) -> usize {
 // ---- the stream
 
 // The stated length, and where the next octet is put.
-#[derive(Drop)]
+#[derive(Clone, Copy)]
 struct Step {
     stated: usize,
     at: usize,
@@ -168,7 +169,7 @@ fn line(
 }
 
 // The state behind a case, and where the next octet is put.
-#[derive(Drop)]
+#[derive(Clone, Copy)]
 struct Turn {
     state: State,
     at: usize,

@@ -1,5 +1,6 @@
 // Parts of a book replaced in a lent buffer. The book is its first `len` octets. What follows a part is moved before anything is written over it; octets of
 // the old book behind the new one become 0.
+#![tactic(auto)]
 ghost use Rattle.std.specs.Prelude.{◌≡◌, ◌+◌, ◌-◌, ◌^◌, ◌≤◌, ◌<◌, length, take, drop};
 ghost use Rattle.octets.specs.Word.{word_of};
 ghost use Rattle.presence.specs.Presence.{room};
@@ -84,7 +85,7 @@ pub fn put_records(buf: &mut [u8], len: usize, a: usize, e: usize, new: &[u8], c
 }
 
 // An entry of a record: the record's place and its number of columns, the column, the entry's first octet and how many it has.
-#[derive(Drop)]
+#[derive(Clone, Copy)]
 pub struct Cell {
     pub place: usize,
     pub columns: usize,

@@ -1,6 +1,7 @@
 // A sheet of chosen address columns of a book (request 101): the book is judged once, then the choice; the sheet is
 // measured by one pass over the records and written by another. A refusal leaves every octet; the octets behind the
 // sheet stay as lent.
+#![tactic(auto)]
 mod choice;
 mod digits;
 mod fields;

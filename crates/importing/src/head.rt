@@ -118,7 +118,7 @@ fn column_long(p: &[u8], j: usize, form: u8, s: &[u8]) -> usize
 }
 
 // What the calls answer that give a column's value, and where it ends.
-#[derive(Drop)]
+#[derive(Clone, Copy)]
 struct Given {
     verdict: Verdict,
     end: usize,

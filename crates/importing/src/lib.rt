@@ -1,6 +1,7 @@
 // A book from a sheet, a list of column flags and a header record with its table (request 106). The text is scanned,
 // then what the writer's calls would answer is found out call by call, and only where nothing is refused the book is
 // written: a refusal leaves every octet.
+#![tactic(auto)]
 mod fields;
 mod head;
 mod lines;

@@ -16,7 +16,7 @@ use crate::fields::{field_end, put_value, value_long};
 use answers::{Verdict, refuse};
 
 // What the calls for a line answer; where it is clear, how many octets are written behind it and where it ends, else 0.
-#[derive(Drop)]
+#[derive(Clone, Copy)]
 struct Line {
     verdict: Verdict,
     written: usize,
@@ -105,7 +105,7 @@ fn judge_record(
 // ---- written
 
 // How many octets are written behind a line's values, where the line ends, and its presence octets.
-#[derive(Drop)]
+#[derive(Clone, Copy)]
 struct Put {
     written: usize,
     end: usize,
@@ -195,7 +195,7 @@ pub fn judge_lines(s: &[u8], codes: &[u32], flags: &[u32], w: usize, n: usize) -
 }
 
 // How many octets are written behind the last record, and how many records there are.
-#[derive(Drop)]
+#[derive(Clone, Copy)]
 pub struct Records {
     pub written: usize,
     pub count: usize,

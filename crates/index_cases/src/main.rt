@@ -1,6 +1,7 @@
 // Answers each case of a stream with a saved index: a line for each. The first octet of a case says what it is: 0 a new
 // book, 1 new octets that are lent as an index, 2 the book's index made, 3 an entry, 4 a value looked up through the
 // octets that are lent. tests/make.py has the lines' form.
+#![tactic(auto)]
 ghost use Rattle.std.specs.Prelude.{◌≤◌, length};
 
 use answers::{Made, Refusal};
@@ -99,7 +100,7 @@ fn keep(case: &[u8], to: &mut [u8]) -> usize
 }
 
 // How long the book and the octets lent as its index are, and where the next octet is put.
-#[derive(Drop)]
+#[derive(Clone, Copy)]
 struct Lent {
     book: usize,
     index: usize,

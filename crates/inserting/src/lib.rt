@@ -1,4 +1,5 @@
 // A record put into a book where it stands, or taken out of it. The book is judged first; a refused call changes no octet.
+#![tactic(auto)]
 ghost use Rattle.std.specs.Prelude.{◌≡◌, [], ◌+◌, ◌≤◌, length, take};
 ghost use Rattle.answers.specs.Numbers.{most_columns, most_octets};
 ghost use Rattle.entry.specs.Slots.{slots_from};
@@ -11,7 +12,7 @@ use table::Columns;
 
 // What is decided before anything is written: the verdict, where records are to be replaced from and up to, and the count behind it. All is 0 behind a
 // refusal.
-#[derive(Drop)]
+#[derive(Clone, Copy)]
 struct Gap {
     verdict: Verdict,
     place: usize,

@@ -2,6 +2,7 @@
 // A case is a length of four octets and as many octets, of which the first says what follows: 0 a new book; 1 a record
 // and a tag, four octets each, to be looked up in the last book; 2 the same, to be told why there is no value. The
 // record FFFFFFFF is the header record.
+#![tactic(auto)]
 ghost use Rattle.std.specs.Prelude.{◌≤◌, length};
 
 use answers::Refusal;
@@ -83,7 +84,7 @@ fn read_book(n: usize, book: &mut [u8]) -> usize
 }
 
 // The length of the last book, and where the next octet is put.
-#[derive(Drop)]
+#[derive(Clone, Copy)]
 struct Step {
     len: usize,
     at: usize,

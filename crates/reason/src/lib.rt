@@ -1,5 +1,6 @@
 // Why a record has no value under a tag (request 105). The book is judged first; then the columns of the named record's
 // table, its row and its truncated properties tell. Whole tags are compared, save where another type is looked for.
+#![tactic(auto)]
 ghost use Rattle.std.specs.Prelude.{◌≡◌, ◌^◌, ◌≤◌, ◌<◌, length};
 ghost use Rattle.answers.specs.Numbers.{most_columns};
 ghost use Rattle.table.specs.Repeat.{memb};
@@ -25,7 +26,7 @@ const ROW_WIDTH: usize = 8;
 // A column of the same upper half under another type: the first such tag and the place of its row. No column at all.
 // Absent, and the tag is listed in the record's truncated properties, or isn't: the place of the presence octet with
 // the tag's bit. Or the refusal.
-#[derive(Drop)]
+#[derive(Clone, Copy)]
 pub enum Reason {
     OtherType(u32, usize),
     NoColumn,

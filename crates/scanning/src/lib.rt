@@ -1,5 +1,6 @@
 // The text of a sheet, scanned (request 106): the lines behind the first, field by field, and the first line with its
 // tags.
+#![tactic(auto)]
 mod digits;
 mod fits;
 mod strings;
@@ -23,7 +24,7 @@ use tags::next_of;
 // Where the scan of a field stands: outside quotes or inside them, with what has been read, or behind a quote that
 // closes or is the first of two. What has been read is 0 nothing, 1 something that more may follow, 2 something that
 // nothing may follow.
-#[derive(Drop)]
+#[derive(Clone, Copy)]
 pub enum Stage {
     Outside(u8),
     Inside(u8),
@@ -31,7 +32,7 @@ pub enum Stage {
 }
 
 // What an octet does to the scan of a field.
-#[derive(Drop)]
+#[derive(Clone, Copy)]
 pub enum Step {
     Goes(Stage),
     Ends,
@@ -39,7 +40,7 @@ pub enum Step {
 }
 
 // What follows a field or a line's end: the scan goes on with a field of the line at a place, or breaks.
-#[derive(Drop)]
+#[derive(Clone, Copy)]
 pub enum Passed {
     On(usize, usize),
     Broken(usize),
@@ -47,7 +48,7 @@ pub enum Passed {
 
 // Where the scan of the first line stands: in a tag, in quotes or not, with so many digits read; behind the quote that
 // closes; or before the LF.
-#[derive(Drop)]
+#[derive(Clone, Copy)]
 pub enum Stand {
     InTag(bool, u8),
     Behind,
@@ -56,7 +57,7 @@ pub enum Stand {
 
 // What an octet does to it: it goes on with what the digits say so far; a tag has ended; the line has; or no first line
 // has the octet there.
-#[derive(Drop)]
+#[derive(Clone, Copy)]
 pub enum Next {
     Goes(Stand, u32),
     Tag(Stand),
@@ -66,7 +67,7 @@ pub enum Next {
 
 // The tags of a first line, zeros behind the last, and where the line ends; or no tag and the place of the octet at
 // fault.
-#[derive(Drop)]
+#[derive(Clone, Copy)]
 pub struct FirstLine {
     pub tags: [u32; 16],
     pub count: usize,

@@ -2,6 +2,7 @@
 // case says what it is: 0 a new book, 1 tags of which the sheet's length is asked, 2 a room and tags, and the sheet is
 // written there, 3 a room, column flags, a header table and record and a text, and the book is written there.
 // tests/make.py has the lines' form.
+#![tactic(auto)]
 ghost use Rattle.std.specs.Prelude.{◌≤◌, ◌<◌, length};
 
 use answers::{Made, Refusal};
@@ -96,7 +97,7 @@ fn sheet_of(book: &[u8], case: &[u8], buf: &mut [u8], out: &mut [u8; 4096], at: 
 // ---- a book from a sheet
 
 // The counts of header tags, header flags and flags, and of the octets of the header record.
-#[derive(Drop)]
+#[derive(Clone, Copy)]
 struct Counts {
     htags: usize,
     hflags: usize,
@@ -184,7 +185,7 @@ fn keep(case: &[u8], to: &mut [u8]) -> usize
 }
 
 // How long the book is, and where the next octet is put.
-#[derive(Drop)]
+#[derive(Clone, Copy)]
 struct Lent {
     book: usize,
     at: usize,

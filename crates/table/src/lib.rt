@@ -1,5 +1,6 @@
 // A table of columns (2.9.3, 2.9.4): its rows are read into arrays by value, row by row, up to the first that is refused by itself; then the
 // rows that were read are searched for a repeated tag, whose refusal comes first where there is one.
+#![tactic(auto)]
 mod repeat;
 
 ghost use Rattle.std.specs.Prelude.{◌≡◌, ◌+◌, ◌*◌, ◌^◌, ◌≤◌, ◌<◌, length, drop};
@@ -12,14 +13,14 @@ use octets::word32;
 pub use repeat::first_repeat;
 
 // The row that a search found.
-#[derive(Drop)]
+#[derive(Clone, Copy)]
 pub enum Found {
     At(usize),
     Nothing,
 }
 
 // For each column its tag, its two flag bits and the form of its values; zeros behind the last.
-#[derive(Drop)]
+#[derive(Clone, Copy)]
 pub struct Columns {
     pub count: usize,
     pub tags: [u32; MOST_COLUMNS],
@@ -28,7 +29,7 @@ pub struct Columns {
 }
 
 // Where the verdict is a refusal there are no columns.
-#[derive(Drop)]
+#[derive(Clone, Copy)]
 pub struct Table {
     pub verdict: Verdict,
     pub columns: Columns,

@@ -1,13 +1,14 @@
 // A view of a book: it holds the book's slice and the place where a record starts. Its functions are thin: each takes
 // the view apart and leaves the work to functions on plain parameters. Other code calls `value_at` and `value_of`, whose
 // parameters are plain. Each call judges the book once.
+#![tactic(auto)]
 ghost use Rattle.std.specs.Prelude.{◌≡◌, ◌-◌, take, drop};
 ghost use Rattle.lookup.specs.Look.{stretch_by, stretch_of};
 ghost use Rattle.lookup.specs.Placed.{lookup_at, stretch_at};
 
 use lookup::{Looked, Which};
 
-#[derive(Drop)]
+#[derive(Clone, Copy)]
 pub struct View<'a> {
     pub book: &'a [u8],
     pub at: usize,
@@ -35,7 +36,7 @@ pub fn view_stretch<'a>(v: View<'a>, tag: u32) -> &'a [u8]
 
 // What a lookup answers, and the stretch of the book that is the value's encoding, empty where there is no value. No
 // encoding is empty, so the stretch alone says whether there is a value; why there is none, the answer says.
-#[derive(Drop)]
+#[derive(Clone, Copy)]
 pub struct Found<'a> {
     pub looked: Looked,
     pub octets: &'a [u8],

@@ -1,4 +1,5 @@
 // Whole numbers (2.9.6.1): one octet up to 127, else a count of octets and those octets, the least first and the fewest that hold the number.
+#![tactic(auto)]
 ghost use Rattle.std.specs.Prelude.{◌≡◌, ◌^◌, ◌≤◌, ◌<◌, length};
 ghost use Rattle.octets.specs.Splice.{stored};
 ghost use Rattle.whole.specs.Number.{fewest, least_of, long_number, number_of, encode_number};
@@ -6,7 +7,7 @@ ghost use Rattle.whole.specs.Number.{fewest, least_of, long_number, number_of, e
 use octets::{octet, word};
 
 // The number and the octets that it takes.
-#[derive(Drop)]
+#[derive(Clone, Copy)]
 pub enum Number {
     Is(u32, usize),
     Broken,

@@ -1,5 +1,6 @@
 // A writing in progress: a small state of plain numbers that goes from call to call, and what every call asks of it first. The tables stand in the
 // written octets. Which states are out of turn, whatever the call, is decision 13.
+#![tactic(auto)]
 ghost use Rattle.std.specs.Prelude.{◌≡◌, ◌+◌, ◌-◌, ◌*◌, ◌≤◌};
 ghost use Rattle.answers.specs.Numbers.{most_octets, most_columns};
 ghost use Rattle.writing.specs.State.{columns_of, sane_of, idle_of, framed_of, within_of, room_at, settled};
@@ -14,7 +15,7 @@ pub const IN_PROGRESS: u8 = 0;
 
 pub const FINISHED: u8 = 1;
 
-#[derive(Drop)]
+#[derive(Clone, Copy)]
 pub struct Writing {
     // the octets written so far
     pub written: usize,
@@ -35,14 +36,14 @@ pub struct Writing {
 }
 
 // The octets written, or the refusal.
-#[derive(Drop)]
+#[derive(Clone, Copy)]
 pub enum Written {
     Done(usize),
     Refused(Refusal),
 }
 
 // What a call answers, and the state to hand to the next one.
-#[derive(Drop)]
+#[derive(Clone, Copy)]
 pub struct Outcome {
     pub answer: Written,
     pub state: Writing,

@@ -1,5 +1,6 @@
 // Plays the ten calls of a writing from a stream: a line for each, with what the call answers and the serial of the whole buffer behind it.
 // The first octet of a case says which call it is. tests/make.py has the list and the lines' form.
+#![tactic(auto)]
 ghost use Rattle.std.specs.Prelude.{◌≤◌, ◌<◌, length};
 
 use lines::{NO_CASE, flush, next_case, next_decimal, put, words};
@@ -160,7 +161,7 @@ fn end_line(buf: &[u8], out: &mut [u8; 4096], at: usize) -> usize {
 // ---- the stream
 
 // The state, and where the next octet is put.
-#[derive(Drop)]
+#[derive(Clone, Copy)]
 struct Step {
     state: Writing,
     at: usize,
