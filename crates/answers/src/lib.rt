@@ -2,6 +2,7 @@
 // value ends or breaks, what was made has a length.
 // Each refusal number and each house limit is named here, and nowhere else in code.
 #![tactic(auto)]
+
 ghost use Rattle.std.specs.Prelude.{◌≡◌};
 ghost use Rattle.answers.specs.Verdict.{refused};
 

@@ -1,6 +1,7 @@
 // What a program that runs stored cases reads and writes. Lines go to standard output by way of a buffer: each function puts octets behind the
 // first `at` of it and answers where the next one goes. Cases come from standard input: a length in four octets, least first, and as many octets.
 #![tactic(auto)]
+
 ghost use Rattle.std.specs.Prelude.{◌≡◌, ◌≤◌, ◌<◌};
 
 // Where there is no case, or none that the buffer holds.

@@ -1,6 +1,7 @@
 // Presence bits (2.9.5): column i is the bit 80 >> (i mod 8) of the octet i / 8, so column 0 is the top bit of the
 // first octet.
 #![tactic(auto)]
+
 ghost use Rattle.std.specs.Prelude.{◌≡◌, ◌≤◌};
 ghost use Rattle.presence.specs.Presence.{room, bit_at, is_set, set_bit, clear_bit, spare_clear, ones_in};
 

@@ -1,6 +1,7 @@
 // The serial (2.9.1): the 32-bit cyclic check of ISO/IEC 8802-3 by bit steps, the lowest bit of each octet first, from FFFFFFFF and with no last step.
 // The bit steps are the definition; runs of six words or more go through a fold that is proved equal to them.
 #![tactic(auto)]
+
 mod fold;
 
 ghost use Rattle.std.specs.Prelude.{◌≡◌};

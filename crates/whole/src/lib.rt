@@ -1,5 +1,6 @@
 // Whole numbers (2.9.6.1): one octet up to 127, else a count of octets and those octets, the least first and the fewest that hold the number.
 #![tactic(auto)]
+
 ghost use Rattle.std.specs.Prelude.{◌≡◌, ◌^◌, ◌≤◌, ◌<◌, length};
 ghost use Rattle.octets.specs.Splice.{stored};
 ghost use Rattle.whole.specs.Number.{fewest, least_of, long_number, number_of, encode_number};

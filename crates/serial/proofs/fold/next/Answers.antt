@@ -1,0 +1,4 @@
+use Rattle.serial.proofs.fold.next.Goals as goal
+
+pub returns : goal.returns
+returns c = cc

@@ -1,0 +1,9 @@
+use Rattle.std.proofs.Common.{rules}
+use Rattle.whole.specs.Cases.{widths}
+use Rattle.whole.proofs.number_width.Goals as goal
+
+pub returns-then-n-lt128 : goal.returns-then-n-lt128
+returns-then-n-lt128 c = search (rules, widths)
+
+pub returns : goal.returns
+returns c = search (rules, widths)
