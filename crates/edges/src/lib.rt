@@ -1,6 +1,7 @@
 // Where the values of a record stand, by one walk over it: an edge in front of each column's value, one behind the
 // last, laid down in an array that the caller lends, so that many records can be gone through with one array.
 #![tactic(auto)]
+
 ghost use Rattle.std.specs.Prelude.{◌≡◌, ◌+◌, ◌^◌, ◌≤◌, ◌<◌, length, drop};
 ghost use Rattle.octets.specs.Splice.{splice, stored};
 ghost use Rattle.presence.specs.Presence.{room};

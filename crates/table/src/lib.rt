@@ -1,6 +1,7 @@
 // A table of columns (2.9.3, 2.9.4): its rows are read into arrays by value, row by row, up to the first that is refused by itself; then the
 // rows that were read are searched for a repeated tag, whose refusal comes first where there is one.
 #![tactic(auto)]
+
 mod repeat;
 
 ghost use Rattle.std.specs.Prelude.{◌≡◌, ◌+◌, ◌*◌, ◌^◌, ◌≤◌, ◌<◌, length, drop};

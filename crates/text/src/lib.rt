@@ -1,5 +1,6 @@
 // Strings at the front of a part: narrow ones (2.9.6.3) and those of UTF-8 (2.9.6.4). Both hold one character or more and end in 00.
 #![tactic(auto)]
+
 ghost use Rattle.std.specs.Prelude.{◌≡◌, [], ◌∷◌, ◌++◌, ◌+◌, ◌<◌, length};
 ghost use Rattle.answers.specs.Walk.{ends_at};
 ghost use Rattle.text.specs.Narrow.{narrow_of};
