@@ -1,6 +1,7 @@
 // Answers each case of a stream by the ground crates' public functions: a line for each.
 // A case is a length of four octets and as many octets, of which the first says what is asked. tests/make.py has the list.
 #![tactic(auto)]
+
 ghost use Rattle.std.specs.Prelude.{◌<◌};
 
 use answers::Walk;

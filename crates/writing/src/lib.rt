@@ -1,6 +1,7 @@
 // A writing in progress: a small state of plain numbers that goes from call to call, and what every call asks of it first. The tables stand in the
 // written octets. Which states are out of turn, whatever the call, is decision 13.
 #![tactic(auto)]
+
 ghost use Rattle.std.specs.Prelude.{◌≡◌, ◌+◌, ◌-◌, ◌*◌, ◌≤◌};
 ghost use Rattle.answers.specs.Numbers.{most_octets, most_columns};
 ghost use Rattle.writing.specs.State.{columns_of, sane_of, idle_of, framed_of, within_of, room_at, settled};
