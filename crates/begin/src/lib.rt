@@ -1,6 +1,7 @@
 // Beginning a book (document 01, "Writing a book"; decision 12): both tables are judged as they are handed over, then the header with serial and
 // count 0 and the metadata are written. A begin that is refused leaves every octet and the writing in progress.
 #![tactic(auto)]
+
 ghost use Rattle.std.specs.Prelude.{◌≡◌, ◌+◌, ◌*◌, ◌≤◌, length};
 ghost use Rattle.answers.specs.Numbers.{most_columns};
 ghost use Rattle.octets.specs.Splice.{stored};

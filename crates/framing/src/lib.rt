@@ -1,6 +1,7 @@
 // Opening and closing a record, and the finish (document 01, "Writing a book"). Each call answers the new state and writes its own octets; a refused
 // call leaves both.
 #![tactic(auto)]
+
 ghost use Rattle.std.specs.Prelude.{◌≡◌, ◌+◌, ◌*◌, ◌≤◌};
 ghost use Rattle.answers.specs.Numbers.{most_octets, most_columns, most_opened};
 ghost use Rattle.framing.specs.Frame.{open_size, open_at, open_next, open_outcome, open_octets, keys_from, between_of};

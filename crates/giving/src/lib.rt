@@ -1,6 +1,7 @@
 // Giving values in a writing in progress: to a later column of the open record, and the elements of a list one at a time. Each call writes its own octets
 // behind what is written; a value, or a list's count, also sets its presence bit. Refused in this order: turn and column, form, length, room.
 #![tactic(auto)]
+
 mod size;
 
 ghost use Rattle.std.specs.Prelude.{◌≡◌, ◌+◌, ◌≤◌, ◌<◌, length};

@@ -2,6 +2,7 @@
 // record each (requests 101 and 106). What such text is and what stands in it are definitions; the code here tells the
 // octets and the types that a sheet knows, for the crates that write one and read one.
 #![tactic(auto)]
+
 mod marks;
 mod types;
 
