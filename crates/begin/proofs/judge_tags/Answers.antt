@@ -6,7 +6,7 @@ pub returns-then-tags-gt-MOST_COLUMNS : goal.returns-then-tags-gt-MOST_COLUMNS
 returns-then-tags-gt-MOST_COLUMNS c = search (rules, tags)
 
 pub overflow_add-base-in-At : goal.overflow_add-base-in-At
-overflow_add-base-in-At c = let b = tags-below 0 c.args.tags.now (search rules) _ c.known-k.ensures.0 _ c.first_repeat-found.ensures _ c.known-k.ensures.1 c.found-1.given.1 in omega arith
+overflow_add-base-in-At c = let b = tags-below 0 c.args.tags.now (search rules) _ c.known-k.ensures.0 _ c.first_repeat-found.ensures _ c.known-k.ensures.1 c.in-At.is in omega arith
 
 pub returns-in-At : goal.returns-in-At
 returns-in-At c = search (rules, tags)

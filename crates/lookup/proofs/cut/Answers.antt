@@ -3,13 +3,13 @@ use Rattle.lookup.specs.Within.{cuts}
 use Rattle.lookup.proofs.cut.Goals as goal
 
 pub slice_bounds-result-count : goal.slice_bounds-result-count
-slice_bounds-result-count c = let l = c.requires _ _ c.found-1.given.1 in omega arith
+slice_bounds-result-count c = let l = c.requires _ _ c.in-At.is in omega arith
 
 pub slice_bounds-result-start : goal.slice_bounds-result-start
-slice_bounds-result-start c = let l = c.requires _ _ c.found-1.given.1 in omega arith
+slice_bounds-result-start c = let l = c.requires _ _ c.in-At.is in omega arith
 
 pub slice_bounds-result-end : goal.slice_bounds-result-end
-slice_bounds-result-end c = let l = c.requires _ _ c.found-1.given.1 in omega arith
+slice_bounds-result-end c = let l = c.requires _ _ c.in-At.is in omega arith
 
 pub returns-in-At : goal.returns-in-At
 returns-in-At c = search cuts

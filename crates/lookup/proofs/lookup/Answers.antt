@@ -2,10 +2,10 @@ use Rattle.lookup.specs.Cases.{lookups, reach-header, reach-address}
 use Rattle.lookup.proofs.lookup.Goals as goal
 
 pub look_in-requires : goal.look_in-requires
-look_in-requires c = reach-header _ 0 _ c.judge-j.ensures _ _ _ _ c.judged-in-Good-1.given.1
+look_in-requires c = reach-header _ 0 _ c.judge-j.ensures _ _ _ _ c.in-Good.is
 
 pub look_number-requires : goal.look_number-requires
-look_number-requires c = reach-address _ 0 _ c.judge-j.ensures _ _ _ _ c.judged-in-Good-1.given.1
+look_number-requires c = reach-address _ 0 _ c.judge-j.ensures _ _ _ _ c.in-Good.is
 
 pub returns-in-Refused : goal.returns-in-Refused
 returns-in-Refused c = search lookups

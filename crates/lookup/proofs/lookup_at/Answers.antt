@@ -3,13 +3,13 @@ use Rattle.lookup.specs.PlaceCases.{ats}
 use Rattle.lookup.proofs.lookup_at.Goals as goal
 
 pub look_in-requires : goal.look_in-requires
-look_in-requires c = reach-header _ 0 _ c.judge-j.ensures _ _ _ _ c.judged-in-Good-1.given.1
+look_in-requires c = reach-header _ 0 _ c.judge-j.ensures _ _ _ _ c.in-Good.is
 
 pub returns-then-at-header : goal.returns-then-at-header
 returns-then-at-header c = search ats
 
 pub look_there-requires : goal.look_there-requires
-look_there-requires c = reach-address _ 0 _ c.judge-j.ensures _ _ _ _ c.judged-in-Good-1.given.1
+look_there-requires c = reach-address _ 0 _ c.judge-j.ensures _ _ _ _ c.in-Good.is
 
 pub returns-in-Refused : goal.returns-in-Refused
 returns-in-Refused c = search ats

@@ -2,7 +2,7 @@ use Rattle.lookup.specs.PlaceCases.{placeds, limits}
 use Rattle.lookup.proofs.place_of.Goals as goal
 
 pub place_number-requires : goal.place_number-requires
-place_number-requires c = limits _ _ c.judge-j.ensures _ _ _ _ c.judged-in-Good-1.given.1
+place_number-requires c = limits _ _ c.judge-j.ensures _ _ _ _ c.in-Good.is
 
 pub returns-in-Refused : goal.returns-in-Refused
 returns-in-Refused c = search placeds
