@@ -1,6 +1,6 @@
 -- One entry of a row set or cleared: what becomes of its presence octets, its values and its octets, and that the row is sound again.
 use Rattle.std.specs.Prelude.{ℕ, zero, suc, ◌+◌, ◌/◌, ◌<◌, ◌≡◌, refl, true, List, [], ◌∷◌, ◌++◌, eqb, length, get_or, set, take, drop}
-use Rattle.std.proofs.Common.{add-zero, arith, sym, ap, ap₂, ◌∙◌, length-set}
+use Rattle.std.proofs.Common.{add-zero, arith, sym, ap, ap₂, ◌∙◌, length-set, subst}
 use Rattle.std.proofs.Math.Option.{Option, none, some}
 use Rattle.std.proofs.lemmas.List.{set_split, set-get_or}
 use Rattle.octets.specs.Octets.{Octets}
@@ -43,7 +43,7 @@ bits_put : (e : Option (List ℕ)) (p : List ℕ) (k j : ℕ) (es : Row) → j <
 bits_put e p k j [] h l b = absurd (omega arith)
 bits_put e p k zero (x ∷ es) h l b =
     let z : k + 0 ≡ k = add-zero k in
-    (rw z (mark-same e p k (rw z at l)), rw z (bits-kept e p k (suc k) es (omega arith) b.1))
+    (rw z (mark-same e p k (rw z at l)), let P : ℕ → Type 0 = λ n. Bits (mark e p n) (suc k) es in subst P (sym z) (bits-kept e p k (suc k) es (omega arith) b.1))
 bits_put e p k (suc j) (x ∷ es) h l b =
     let z : k + suc j ≡ suc k + j = omega arith in
     (ap (λ (x : ℕ). eqb x 1) (mark-other e p (k + suc j) k (omega arith)) ∙ b.0, rw z (bits_put e p (suc k) j es (omega arith) (rw z at l) b.1))

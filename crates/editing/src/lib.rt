@@ -1,6 +1,7 @@
 // Parts of a book replaced in a lent buffer. The book is its first `len` octets. What follows a part is moved before anything is written over it; octets of
 // the old book behind the new one become 0.
 #![tactic(auto)]
+
 ghost use Rattle.std.specs.Prelude.{◌≡◌, ◌+◌, ◌-◌, ◌^◌, ◌≤◌, ◌<◌, length, take, drop};
 ghost use Rattle.octets.specs.Word.{word_of};
 ghost use Rattle.presence.specs.Presence.{room};

@@ -2,6 +2,7 @@
 // measured by one pass over the records and written by another. A refusal leaves every octet; the octets behind the
 // sheet stay as lent.
 #![tactic(auto)]
+
 mod choice;
 mod digits;
 mod fields;

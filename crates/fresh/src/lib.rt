@@ -1,6 +1,7 @@
 // A book laid down afresh in a buffer: its front from columns, as a writing begins, and the header record. The address
 // records are the caller's to lay behind it; then the book is sealed as the writer does (framing::seal).
 #![tactic(auto)]
+
 ghost use Rattle.std.specs.Prelude.{◌≡◌, length};
 ghost use Rattle.fresh.specs.Fresh.{lay_at, lay_octets};
 

@@ -1,6 +1,7 @@
 // A saved index of a book (requests 103 and 111): made from the book, read beside it, and a lookup of one address record
 // through it, whose cost doesn't grow with the number of records.
 #![tactic(auto)]
+
 ghost use Rattle.std.specs.Prelude.{◌≡◌, ◌+◌, ◌*◌, ◌^◌, ◌≤◌, ◌<◌, length, drop};
 ghost use Rattle.answers.specs.Numbers.{most_records};
 ghost use Rattle.octets.specs.Splice.{stored};

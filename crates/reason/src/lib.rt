@@ -1,6 +1,7 @@
 // Why a record has no value under a tag (request 105). The book is judged first; then the columns of the named record's
 // table, its row and its truncated properties tell. Whole tags are compared, save where another type is looked for.
 #![tactic(auto)]
+
 ghost use Rattle.std.specs.Prelude.{◌≡◌, ◌^◌, ◌≤◌, ◌<◌, length};
 ghost use Rattle.answers.specs.Numbers.{most_columns};
 ghost use Rattle.table.specs.Repeat.{memb};

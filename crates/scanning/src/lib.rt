@@ -1,6 +1,7 @@
 // The text of a sheet, scanned (request 106): the lines behind the first, field by field, and the first line with its
 // tags.
 #![tactic(auto)]
+
 mod digits;
 mod fits;
 mod strings;
