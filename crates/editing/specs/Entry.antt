@@ -46,7 +46,7 @@ bits_put e p k zero (x ∷ es) h l b =
     (rw z (mark-same e p k (rw z at l)), let P : ℕ → Type 0 = λ n. Bits (mark e p n) (suc k) es in subst P (sym z) (bits-kept e p k (suc k) es (omega arith) b.1))
 bits_put e p k (suc j) (x ∷ es) h l b =
     let z : k + suc j ≡ suc k + j = omega arith in
-    (ap (λ (x : ℕ). eqb x 1) (mark-other e p (k + suc j) k (omega arith)) ∙ b.0, rw z (bits_put e p (suc k) j es (omega arith) (rw z at l) b.1))
+    (ap (λ (x : ℕ). eqb x 1) (mark-other e p (k + suc j) k (omega arith)) ∙ b.0, let P : ℕ → Type 0 = λ n. Bits (mark e p n) (suc k) (set es j e) in subst P (sym z) (bits_put e p (suc k) j es (omega arith) (rw z at l) b.1))
 
 pub presence-put : (e : Option (List ℕ)) (i : ℕ) (es : Row) → i < length es → presence_of (set es i e) ≡ mark e (presence_of es) i
 presence-put e i es h =
