@@ -1,5 +1,6 @@
 // A value of a book set or cleared where the book stands. The book is judged first; a refused call changes no octet.
 #![tactic(auto)]
+
 ghost use Rattle.std.specs.Prelude.{◌≡◌, [], ◌+◌, ◌^◌, ◌≤◌, ◌<◌, length, take};
 ghost use Rattle.std.proofs.Math.Option.{none, some};
 ghost use Rattle.answers.specs.Numbers.{most_octets};
