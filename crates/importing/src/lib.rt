@@ -2,6 +2,7 @@
 // then what the writer's calls would answer is found out call by call, and only where nothing is refused the book is
 // written: a refusal leaves every octet.
 #![tactic(auto)]
+
 mod fields;
 mod head;
 mod lines;

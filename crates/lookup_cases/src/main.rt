@@ -3,6 +3,7 @@
 // and a tag, four octets each, to be looked up in the last book; 2 the same, to be told why there is no value. The
 // record FFFFFFFF is the header record.
 #![tactic(auto)]
+
 ghost use Rattle.std.specs.Prelude.{◌≤◌, length};
 
 use answers::Refusal;
