@@ -31,7 +31,7 @@ use Rattle.sheet.specs.Back.{held_by}
 use Rattle.sheet.specs.One.{Exported, SoundChoice}
 use Rattle.sheet.proofs.ValuesBack.{sheet-back}
 use Rattle.exporting.specs.Export.{chosen_of, selected_of, selected, sheet_in}
-use Rattle.exporting.specs.Told.{selected-sound}
+use Rattle.exporting.proofs.Told.{selected-sound}
 use Rattle.scanning.specs.Scan.{fits}
 use Rattle.scanning.specs.Exact.{text-taken}
 use Rattle.scanning.specs.Taken.{lines-taken}
