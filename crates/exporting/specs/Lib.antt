@@ -5,6 +5,3 @@ pub mod ValueCases
 pub mod ChoiceCases
 pub mod LineCases
 pub mod RecordCases
-pub mod Tied
-pub mod Cases
-pub mod Told

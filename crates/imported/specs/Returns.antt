@@ -28,9 +28,10 @@ use Rattle.lookup.specs.Search.{only-column}
 use Rattle.sheet.specs.Field.{all_exported, codes_of, most_chosen, line_of, lines_of, tag_fields, sheet_of}
 use Rattle.sheet.specs.Reading.{rows_in}
 use Rattle.sheet.specs.Back.{held_by}
-use Rattle.sheet.specs.One.{Exported, SoundChoice, sheet-back}
+use Rattle.sheet.specs.One.{Exported, SoundChoice}
+use Rattle.sheet.proofs.ValuesBack.{sheet-back}
 use Rattle.exporting.specs.Export.{chosen_of, selected_of, selected, sheet_in}
-use Rattle.exporting.specs.Told.{selected-sound}
+use Rattle.exporting.proofs.Told.{selected-sound}
 use Rattle.scanning.specs.Scan.{fits}
 use Rattle.scanning.specs.Exact.{text-taken}
 use Rattle.scanning.specs.Taken.{lines-taken}

@@ -1,6 +1,6 @@
 -- The ways of the code that tells marks and types, on plain values.
 use Rattle.std.specs.Prelude.{ℕ, ◌+◌, ◌≤◌, ◌<◌, ◌%◌, ◌≡◌, Bool, true, false, not, List, eqb, length, drop, get_or}
-use Rattle.std.proofs.Common.{sym, ◌∙◌, drop_of_length-le}
+use Rattle.std.proofs.Common.{sym, drop_of_length-le}
 use borrow.Author.Tests.{ne_eqb, not-true, not-false}
 use Rattle.octets.specs.Octets.{drop-next}
 use Rattle.sheet.specs.Field.{is_mark, is_exported, all_exported}

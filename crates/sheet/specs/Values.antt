@@ -1,10 +1,9 @@
--- The values that can be exported, by the type of their column: what each says, what its field holds, and that the
--- value comes back from that. Assumes nothing.
+-- The values that can be exported, by the type of their column: what each says and what its field holds. Assumes nothing.
 use Rattle.std.specs.Prelude.{ℕ, zero, suc, ◌+◌, ◌-◌, ◌^◌, ◌≤◌, ◌<◌, ◌≡◌, Bool, List, [], ◌∷◌, ◌++◌, eqb, length, take}
 use Rattle.std.proofs.Common.{arith, sym, ap, ◌∙◌, append-nil, length-append, take_at, ne_eqb, eqb-true}
 use Rattle.std.proofs.Math.Path.{refl}
 use Rattle.std.proofs.Math.Bool.{true, false, cond}
-use Rattle.std.proofs.Math.Option.{Option, none, some}
+use Rattle.std.proofs.Math.Option.{some}
 use Rattle.octets.specs.Cases.{taken}
 use Rattle.octets.specs.Octets.{octet_at}
 use Rattle.whole.specs.declared.Number.TheVariants.{Is}
@@ -14,7 +13,7 @@ use Rattle.text.specs.Text.{encode_chars, chars-some}
 use Rattle.value.specs.Types.{number, truth, narrow, text, form_in, number_of, form_at, form_of}
 use Rattle.value.specs.Encode.{Item, a_number, a_truth, a_narrow, a_text, a_binary, kind_of, Valid, encode_item}
 use Rattle.value.specs.Form.{IsValue}
-use Rattle.entry.specs.Record.{Slot, SoundEntry, unlike}
+use Rattle.entry.specs.Record.{Slot, unlike}
 use Rattle.sheet.specs.Digits.{number_in, decimal, decimal-back, decimal-long, places-some}
 use Rattle.sheet.specs.Field.{numbers, truths, narrows, texts, is_exported, whole_in, content_of}
 use Rattle.sheet.specs.Reading.{value_from}
@@ -159,39 +158,25 @@ module _ (code : ℕ) (t : List ℕ) (h : 1 ≤ length t) where
       go false true q = unlike q
       go false false q = refl
 
-string-back : (code : ℕ) (v : List ℕ) → is_string code ≡ true → AString v
+pub string-back : (code : ℕ) (v : List ℕ) → is_string code ≡ true → AString v
     → value_from code (content_of code (some v)) ≡ some v
 string-back code v s a =
     rw (string-content code v s a) (string-from code a.octets a.some s ∙ ap some (sym a.form))
 
-number-again : (v : List ℕ) → ANumber v → value_from numbers (content_of numbers (some v)) ≡ some v
+pub number-again : (v : List ℕ) → ANumber v → value_from numbers (content_of numbers (some v)) ≡ some v
 number-again v a =
     let n : 1 ≤ length (decimal a.says) = rw (decimal-long a.says) (places-some a.says).0 in
     rw (number-content v a)
     (number-from numbers (decimal a.says) n refl
     ∙ ap (λ (k : ℕ). some (encode_number k)) (decimal-back a.says) ∙ ap some (sym a.form))
 
-truth-again : (v : List ℕ) → ATruth v → value_from truths (content_of truths (some v)) ≡ some v
+pub truth-again : (v : List ℕ) → ATruth v → value_from truths (content_of truths (some v)) ≡ some v
 truth-again v a =
     let d : 48 + a.says - 48 ≡ a.says = omega arith in
     rw (truth-content v a)
     (truth-from truths ((48 + a.says) ∷ []) (omega arith) refl
     ∙ ap (λ (k : ℕ). some (k ∷ [])) d ∙ ap some (sym a.form))
 
-none-back : (code : ℕ) → value_from code (content_of code none) ≡ none
-unfolding value_from content_of
-none-back code = refl
-
 -- what may stand in a chosen column: a value of its type, or none
 abbrev pub free_slot : ℕ → Slot
 free_slot code = record { form = form_of code; must = false }
-
-pub value-back : (code : ℕ) (e : Option (List ℕ)) → is_exported code ≡ true → SoundEntry (free_slot code) e
-    → value_from code (content_of code e) ≡ e
-value-back code none h s = none-back code
-value-back code (some v) h s =
-    by-type code h
-    (λ p. rw p (number-again v (number-value v (rw p at s.0))))
-    (λ p. rw p (truth-again v (truth-value v (rw p at s.0))))
-    (λ p. rw p (string-back narrows v narrow-string (narrow-value v (rw p at s.0))))
-    (λ p. rw p (string-back texts v text-string (text-value v (rw p at s.0))))

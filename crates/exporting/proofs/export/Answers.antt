@@ -1,5 +1,5 @@
 use Rattle.std.proofs.Common.{rules}
-use Rattle.exporting.specs.Cases.{export_cases, book-short, first-near, count-few, tags-reach, forms-reach}
+use Rattle.exporting.proofs.Cases.{export_cases, book-short, first-near, count-few, tags-reach, forms-reach}
 use Rattle.exporting.proofs.export.Goals as goal
 
 pub export_good-requires : goal.export_good-requires

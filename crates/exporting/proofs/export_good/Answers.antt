@@ -1,5 +1,5 @@
 use Rattle.std.proofs.Common.{rules}
-use Rattle.exporting.specs.Cases.{good_cases, good-few, good-room}
+use Rattle.exporting.proofs.Cases.{good_cases, good-few, good-room}
 use Rattle.exporting.proofs.export_good.Goals as goal
 
 pub returns-in_default : goal.returns-in_default

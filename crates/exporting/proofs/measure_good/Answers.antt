@@ -1,5 +1,5 @@
 use Rattle.std.proofs.Common.{rules}
-use Rattle.exporting.specs.Cases.{measure_cases, measure-few}
+use Rattle.exporting.proofs.Cases.{measure_cases, measure-few}
 use Rattle.exporting.proofs.measure_good.Goals as goal
 
 pub returns-in-Refused : goal.returns-in-Refused

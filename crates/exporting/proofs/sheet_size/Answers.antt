@@ -1,4 +1,4 @@
-use Rattle.exporting.specs.Cases.{size_is}
+use Rattle.exporting.proofs.Cases.{size_is}
 use Rattle.exporting.proofs.sheet_size.Goals as goal
 
 pub returns : goal.returns

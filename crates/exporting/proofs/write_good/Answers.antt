@@ -1,5 +1,5 @@
 use Rattle.std.proofs.Common.{rules}
-use Rattle.exporting.specs.Cases.{write_cases, write-lines, write-put}
+use Rattle.exporting.proofs.Cases.{write_cases, write-lines, write-put}
 use Rattle.exporting.proofs.write_good.Goals as goal
 
 pub put_tags-at-requires : goal.put_tags-at-requires

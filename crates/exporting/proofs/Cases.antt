@@ -35,7 +35,7 @@ use Rattle.exporting.specs.Export.{export_answer, export_octets, sheet_in}
 use Rattle.exporting.specs.Steps.{lines_by, sheet_by, places_in, places_for, sheet_from, choice_from, good_length}
 use Rattle.exporting.specs.Steps.{good_answer, good_octets}
 use Rattle.exporting.specs.ChoiceCases.{places-long}
-use Rattle.exporting.specs.Tied.{sheet-tied}
+use Rattle.exporting.proofs.Tied.{sheet-tied}
 
 -- ---- sheet_size
 

@@ -31,7 +31,8 @@ use Rattle.lookup.specs.declared.Which.TheVariants.{Number}
 use Rattle.sheet.specs.Field.{all_exported, codes_of}
 use Rattle.sheet.specs.Reading.{rows_in}
 use Rattle.sheet.specs.Values.{free_slot}
-use Rattle.sheet.specs.One.{free_slots, Exported, exported-each, SoundChoice, sheet-back}
+use Rattle.sheet.specs.One.{free_slots, Exported, exported-each, SoundChoice}
+use Rattle.sheet.proofs.ValuesBack.{sheet-back}
 use Rattle.exporting.specs.Export.{chosen_of, selected_of, selected, sheet_in, all_known}
 use Rattle.exporting.specs.Export.{choice_at, sheet_at, export_at, length_answer, export_answer}
 

@@ -1,0 +1,3 @@
+pub mod Tied
+pub mod Cases
+pub mod Told
