@@ -2,6 +2,7 @@
 // buffer; a call answers 0 or the number of its refusal, and leaves the refusal's place and the new length in two
 // numbers that are lent for it.
 #![tactic(auto)]
+
 ghost use Rattle.std.specs.Prelude.{◌≡◌};
 ghost use Rattle.std.proofs.Math.Option.{none, some};
 ghost use Rattle.correcting.specs.Correct.{set_answer, set_octets, insert_answer, insert_octets, delete_answer};

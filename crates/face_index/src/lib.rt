@@ -1,6 +1,7 @@
 // A saved index, for C programs: made from a book, read beside it, and a value looked up through it. No call relies on
 // an earlier one. The header record isn't offered through an index.
 #![tactic(auto)]
+
 ghost use Rattle.std.specs.Prelude.{◌≡◌};
 ghost use Rattle.face_reading.specs.Lent.{made_number, made_numbers};
 ghost use Rattle.face_reading.specs.Looking.{looked_number, looked_numbers};

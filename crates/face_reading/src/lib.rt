@@ -2,6 +2,7 @@
 // name. It answers 0 or the number of its refusal; what else it has to say stands in a few numbers that are lent for
 // it, the refusal's place first. No call relies on an earlier one.
 #![tactic(auto)]
+
 mod judging;
 mod lent;
 mod looking;

@@ -1,5 +1,6 @@
 // Why a record has no value under a tag, for C programs. The call relies on no earlier one.
 #![tactic(auto)]
+
 ghost use Rattle.std.specs.Prelude.{◌≡◌};
 ghost use Rattle.face_reading.specs.Looking.{which_of};
 ghost use Rattle.reason.specs.Why.{why_of};

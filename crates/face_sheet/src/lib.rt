@@ -1,6 +1,7 @@
 // Sheets, for C programs: how long the sheet of chosen address columns is, its text, and a book from a sheet. No call
 // relies on an earlier one.
 #![tactic(auto)]
+
 ghost use Rattle.std.specs.Prelude.{◌≡◌};
 ghost use Rattle.face_reading.specs.Lent.{made_number, made_numbers};
 ghost use Rattle.exporting.specs.Export.{length_answer, export_answer, export_octets};

@@ -2,6 +2,7 @@
 // call, the refusal's place first, so that no call relies on anything that the caller can't see; a call answers 0 or
 // the number of its refusal.
 #![tactic(auto)]
+
 ghost use Rattle.std.specs.Prelude.{◌≡◌, not, eqb};
 ghost use Rattle.framing.specs.Frame.{open_outcome, open_octets, close_outcome, close_octets, finish_outcome, finish_octets};
 ghost use Rattle.giving.specs.Give.{Number, Truth, Octets, Count, give_outcome, give_octets, element_outcome};

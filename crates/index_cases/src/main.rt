@@ -2,6 +2,7 @@
 // book, 1 new octets that are lent as an index, 2 the book's index made, 3 an entry, 4 a value looked up through the
 // octets that are lent. tests/make.py has the lines' form.
 #![tactic(auto)]
+
 ghost use Rattle.std.specs.Prelude.{◌≤◌, length};
 
 use answers::{Made, Refusal};

@@ -1,5 +1,6 @@
 // A record put into a book where it stands, or taken out of it. The book is judged first; a refused call changes no octet.
 #![tactic(auto)]
+
 ghost use Rattle.std.specs.Prelude.{◌≡◌, [], ◌+◌, ◌≤◌, length, take};
 ghost use Rattle.answers.specs.Numbers.{most_columns, most_octets};
 ghost use Rattle.entry.specs.Slots.{slots_from};

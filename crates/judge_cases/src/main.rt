@@ -1,5 +1,6 @@
 // Judges each book of a stream: a line for each, with what the judge answers. tests/make.py has the lines' form.
 #![tactic(auto)]
+
 use answers::Refusal;
 use book::{Judged, Judgement};
 use lines::{NO_CASE, decimal, flush, hex_word, next_case, next_decimal, put, words};

@@ -2,6 +2,7 @@
 // function is thin: the work is the call of the same name that takes the state by value; the state that it hands back is stored, and its answer is
 // answered. So a refused call leaves the state as it was, since the call by value does.
 #![tactic(auto)]
+
 ghost use Rattle.std.specs.Prelude.{◌≡◌};
 ghost use Rattle.framing.specs.Frame.{open_outcome, open_octets, close_outcome, close_octets, finish_outcome, finish_octets};
 ghost use Rattle.giving.specs.Give.{Number, Truth, Octets, Count, give_outcome, give_octets, element_outcome, element_octets};

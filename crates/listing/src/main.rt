@@ -1,5 +1,6 @@
 // Lists a book that is read from standard input: a line for the book, one for its header record and one for each address record; or its refusal.
 #![tactic(auto)]
+
 ghost use Rattle.std.specs.Prelude.{◌≡◌, length};
 
 use answers::{NO_ROOM, Refusal};

@@ -1,6 +1,7 @@
 // Octets in a lent buffer: read one by one or as little-endian words of any width, stored, moved, cleared and copied.
 // Every call is total: an octet that isn't there reads as 0, and what doesn't fit changes nothing.
 #![tactic(auto)]
+
 mod moves;
 mod words;
 

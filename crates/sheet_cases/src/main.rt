@@ -3,6 +3,7 @@
 // written there, 3 a room, column flags, a header table and record and a text, and the book is written there.
 // tests/make.py has the lines' form.
 #![tactic(auto)]
+
 ghost use Rattle.std.specs.Prelude.{◌≤◌, ◌<◌, length};
 
 use answers::{Made, Refusal};

@@ -2,6 +2,7 @@
 // the view apart and leaves the work to functions on plain parameters. Other code calls `value_at` and `value_of`, whose
 // parameters are plain. Each call judges the book once.
 #![tactic(auto)]
+
 ghost use Rattle.std.specs.Prelude.{◌≡◌, ◌-◌, take, drop};
 ghost use Rattle.lookup.specs.Look.{stretch_by, stretch_of};
 ghost use Rattle.lookup.specs.Placed.{lookup_at, stretch_at};

@@ -1,6 +1,7 @@
 // Plays the ten calls of a writing from a stream: a line for each, with what the call answers and the serial of the whole buffer behind it.
 // The first octet of a case says which call it is. tests/make.py has the list and the lines' form.
 #![tactic(auto)]
+
 ghost use Rattle.std.specs.Prelude.{◌≤◌, ◌<◌, length};
 
 use lines::{NO_CASE, flush, next_case, next_decimal, put, words};
