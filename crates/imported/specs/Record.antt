@@ -27,7 +27,8 @@ use Rattle.drafting.specs.Gives.{fine-whole}
 use Rattle.drafting.specs.Keeps.{slots-open, opening, open-keeps, close-sound, close-keeps}
 use Rattle.drafting.specs.Run.{Call, Open, Close}
 use Rattle.drafting.specs.Written.{Stand, after}
-use Rattle.drafting.specs.Again.{record_calls, row_calls, close-clear}
+use Rattle.drafting.specs.Again.{record_calls, row_calls}
+use Rattle.drafting.proofs.WrittenAgain.{close-clear}
 use Rattle.importing.specs.Given.{row_pieces, pieces_at, keys_in, record_given}
 use Rattle.importing.specs.Fitting.{keys-sound, keys-held}
 use Rattle.imported.specs.Calls.{Answers, answers_one, answers-first, answers-append}

@@ -1,0 +1,4 @@
+pub mod Anew
+pub mod Kept
+pub mod Adds
+pub mod WrittenAgain
