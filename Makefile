@@ -1,11 +1,11 @@
 # The library for C programs and the command `oab`, below target/oab; `make check` runs the tests, `make install` puts
 # both in place (PREFIX, DESTDIR). The library is proved before it is built.
 # The kit builds for x86-64: elsewhere the cross compiler x86_64-linux-gnu-gcc links the command statically, and bin/oab
-# runs it by the kit's emulator. LIBRARY='a.o b.o c.o' takes objects that are compiled for this machine instead.
+# runs it by an emulator. LIBRARY='a.o b.o c.o' takes objects that are compiled for this machine instead.
 # SANITIZE=1 builds below target/sanitized, with the C files watched for wrong accesses and undefined steps.
 
-# The crates of the calls. Each gives one object, which shows its own calls and nothing else.
-FACES = face_reading face_reason face_index face_sheet face_correcting face_writing
+# The crates of the calls' exports. Each gives one object, which shows its own calls and nothing else.
+FACES = face_reading_c face_reason_c face_index_c face_sheet_c face_correcting_c face_writing_c
 
 ifneq ($(LIBRARY)$(filter x86_64,$(shell uname -m)),)
 CC ?= cc
@@ -56,14 +56,13 @@ $(ARCHIVE): $(LIBRARY) $(LIB)/from
 	rm -f $@
 	$(AR) rcs $@ $(LIBRARY)
 else
-# All is proved first, on all cores; the objects are built one after the other, since two `rt staticlib` at once disturb
-# each other's records in target/.
-$(ARCHIVE): $(shell find crates -name '*.rt' -o -name '*.antt') crates.txt $(LIB)/from
+# Each object is built over what earlier checks kept, and what none of them proved is proved first.
+$(ARCHIVE): $(shell find crates -name out -prune -o \( -name '*.rt' -o -name '*.antt' \) -print) crates.txt $(LIB)/from
 	@command -v rt >/dev/null || { echo "make: rt is missing: the Rattle kit proves the library" >&2; exit 1; }
-	@echo "make: the library is proved first: about ten minutes where nothing of it is proved yet" >&2
-	(rt check $(FACES) && for f in $(FACES); do rt staticlib $$f || exit 1; done) > $(LIB)/staticlib.log 2>&1 || \
-		{ tail -n 20 $(LIB)/staticlib.log; exit 1; }
-	cd $(LIB) && for f in $(FACES); do $(AR) x ../staticlib/lib$$f.a || exit 1; done
+	@echo "make: the library is proved first: about half an hour where nothing of it is proved yet" >&2
+	(for f in $(FACES); do (cd crates/$$f && rt lib) || exit 1; done) > $(LIB)/lib.log 2>&1 || \
+		{ tail -n 20 $(LIB)/lib.log; exit 1; }
+	cd $(LIB) && for f in $(FACES); do $(AR) x ../../crates/$$f/out/lib$$f.a || exit 1; done
 	rm -f $@
 	$(AR) rcs $@ $(FACES:%=$(LIB)/%.o)
 endif

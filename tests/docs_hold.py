@@ -1,7 +1,8 @@
 """Checks that what the docs name is there: definitions, functions and proofs of docs/WHERE.md, theorems of
 docs/PROMISES.md and docs/CONTRACTS.md; that a function named in WHERE promises, by its contract, what the definition
 beside it says; the wrong programs that CONTRACTS names, and that every kept one is named. Of every public call of the
-library: that it has a contract, has no `requires`, and is in CONTRACTS.
+library: that it has a contract, has no `requires`, and is in CONTRACTS; of every call for C programs: that its export
+has the clauses of the call.
 
 Run from the top: python3 tests/docs_hold.py. Ends with "N names, 0 missing".
 """
@@ -46,11 +47,11 @@ def pairs(text):
 def meanings():
     """What each definition of the specs names in its equations or fields, by its name; an operator by its word."""
     says = {}
-    start = r'^(?:(?:pub|unfoldable|abbrev|record) )+([\w·-]+)(?: .*)? :.*\n((?:.+\n)*)'
+    start = r'^(?:(?:pub|unfoldable|abbrev|record) )+([\w·◌-]+)(?: .*)? :.*\n((?:.+\n)*)'
     for path in CRATES.glob('*/specs/*.antt'):
         for found in re.finditer(start, path.read_text(), re.M):
             lines = [line for line in found[2].splitlines() if not line.startswith('--')]
-            says.setdefault(found[1].strip('_'), set()).update(words(' '.join(lines)))
+            says.setdefault(found[1].strip('◌'), set()).update(words(' '.join(lines)))
     return says
 
 
@@ -91,7 +92,7 @@ def cites(text):
         if not line.startswith('| ') or len(cells) != 4:
             continue
         row = cells[0].strip()
-        definitions = {name.strip('_') for name, _ in pairs(cells[1])} & set(says)
+        definitions = {name.strip('◌') for name, _ in pairs(cells[1])} & set(says)
         functions = [(name, CRATES / path) for name, path in pairs(cells[2]) if not path.endswith('main.rt')]
         laws = [(name, CRATES / path) for name, path in pairs(cells[3]) if path.endswith('.antt')]
         promised = {name: reached(contract(path, name), says) for name, path in functions if path.is_file()}
@@ -126,7 +127,7 @@ def theorems(doc):
             continue
         folder = files[0].rsplit('/', 1)[0]
         files = [f if '/' in f else f'{folder}/{f}' for f in files]
-        for name in [n for c in cells[:2] for n in re.findall(r'`([a-z]+(?:-[a-z]+)+)`', c)]:
+        for name in [n for c in cells[:2] for n in re.findall(r'`((?!wt_)[a-z]+(?:[-_][a-z]+)+)`', c)]:
             want(any(declares(CRATES / f, name) for f in files), f'{name} in {", ".join(files)}')
 
 
@@ -149,16 +150,33 @@ def calls():
         crate = lib.parent.parent.name
         if crate == 'lines':
             continue
-        handed = set(re.findall(r'^pub use \w+::(\w+);', lib.read_text(), re.M))
+        handed = set(re.findall(r'\w+', ' '.join(re.findall(r'^pub use \w+::([^;]+);', lib.read_text(), re.M))))
         for path in sorted(lib.parent.glob('*.rt')):
             for found in re.finditer(r'^pub (extern "C" )?fn (\w+)(.*?)^\{', path.read_text(), re.M | re.S):
                 name = found[2]
                 if path != lib and not found[1] and name not in handed:
                     continue
                 head = found[3]
-                good = ' ensures {' in head and ' requires {' not in head
+                good = re.search(r' ensures (?:\w+ )?\{', head) and not re.search(r' requires\b', head)
                 want(good, f'a contract without requires of {crate}::{name}')
                 want(re.search(r'\b' + name + r'\b', text), f'{crate}::{name} in docs/CONTRACTS.md')
+
+
+def exports():
+    """What C links: each call of a library for C programs is exported once, by the thin crate over it, with the same
+    arguments and the same clauses."""
+    for thin in sorted(CRATES.glob('*_c/src/lib.rt')):
+        crate = thin.parent.parent.name.removesuffix('_c')
+        given, called = heads([thin]), heads((CRATES / crate / 'src').glob('*.rt'))
+        for name in sorted(given.keys() | called.keys()):
+            want(given.get(name) == called.get(name), f'{name} of {crate}_c with the clauses that it has in {crate}')
+
+
+def heads(paths):
+    """The arguments and clauses of each call for C programs, however their lines are broken."""
+    head = re.compile(r'^pub (?:extern "C" )?fn (wt_\w+)(.*?)^\{', re.M | re.S)
+    found = [m for path in paths for m in head.finditer(path.read_text())]
+    return {m[1]: re.sub(r'\s+', '', m[2]).replace(',)', ')') for m in found}
 
 
 where()
@@ -166,5 +184,6 @@ theorems('docs/PROMISES.md')
 theorems('docs/CONTRACTS.md')
 wrong_programs()
 calls()
+exports()
 print(f'{names} names, {missing} missing')
 sys.exit(missing != 0)

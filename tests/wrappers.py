@@ -62,6 +62,7 @@ def tree(folder, rt):
         shutil.copy(TOP / part, top / part)
     (top / 'crates/listing/src').mkdir(parents=True)
     (top / 'crates/listing/src/main.rt').write_text('')
+    (top / 'crates/face_reading_c').mkdir()
     tools.mkdir()
     for name, text in (('rt', rt), ('uname', 'echo x86_64\n')):
         (tools / name).write_text('#!/bin/sh\n' + text)
@@ -69,12 +70,11 @@ def tree(folder, rt):
     return top, {**os.environ, 'PATH': f'{tools}:{os.environ["PATH"]}', 'LIBRARY': ''}
 
 
-BUILDS = '''echo "$@" >>calls
-[ ! -e target/stamp/listing ] || exit 0
-mkdir -p target/bin target/stamp
-printf '#!/bin/sh\\necho listed\\n' >target/bin/listing
-chmod 755 target/bin/listing
-touch target/stamp/listing
+# rt works in a crate's folder; the calls of it are noted at the top.
+NOTES = 'echo "$@" >>../../calls\n'
+BUILDS = NOTES + '''mkdir -p out
+printf '#!/bin/sh\\necho listed\\n' >out/listing
+chmod 755 out/listing
 '''
 
 
@@ -86,13 +86,13 @@ def first_runs(folder):
         differs((what, got[2]), (0, b'listed\n', True),
                 (*got[:2], got[2].startswith(b'listing: the program is proved and built first')))
         differs('and then not again', (0, b'listed\n', b''), sh(top / 'bin/listing', env=env, input=b''))
-        (top / 'target/bin/listing').unlink()
-    differs('calls of rt', b'check listing\n' * 2, content(top / 'calls'))
+        (top / 'crates/listing/out/listing').unlink()
+    differs('calls of rt', b'run\n' * 2, content(top / 'calls'))
 
 
 def make_speaks(folder):
     """make looks for its tools before it proves, and says that it proves."""
-    top, env = tree(folder, 'echo "$@" >>calls\nexit 1\n')
+    top, env = tree(folder, NOTES + 'exit 1\n')
     for missing in ('CC', 'AR'):
         got = sh('make', f'{missing}=no-such-tool', cwd=top, env=env)
         differs((missing, got[2]), (True, True, None),

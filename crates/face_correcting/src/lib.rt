@@ -12,8 +12,7 @@ ghost use Rattle.face_reading.specs.Looking.{which_of};
 
 use face_reading::{made_number, made_numbers, which_of};
 
-#[unsafe(no_mangle)]
-pub extern "C" fn wt_set(
+pub fn wt_set(
     buf: &mut [u8],
     len: u64,
     number: u64,
@@ -33,14 +32,7 @@ pub extern "C" fn wt_set(
     made_number(corrected)
 }
 
-#[unsafe(no_mangle)]
-pub extern "C" fn wt_clear(
-    buf: &mut [u8],
-    len: u64,
-    number: u64,
-    tag: u32,
-    out: &mut [u64; 2],
-) -> u32
+pub fn wt_clear(buf: &mut [u8], len: u64, number: u64, tag: u32, out: &mut [u64; 2]) -> u32
     ensures { (result ≡ made_number (set_answer buf.old len (which_of number) tag none))
         × (out.new ≡ made_numbers (set_answer buf.old len (which_of number) tag none))
         × (buf.new ≡ set_octets buf.old len (which_of number) tag none) }
@@ -52,14 +44,7 @@ pub extern "C" fn wt_clear(
 }
 
 // A record before record k.
-#[unsafe(no_mangle)]
-pub extern "C" fn wt_insert(
-    buf: &mut [u8],
-    len: u64,
-    k: u64,
-    offered: &[u8],
-    out: &mut [u64; 2],
-) -> u32
+pub fn wt_insert(buf: &mut [u8], len: u64, k: u64, offered: &[u8], out: &mut [u64; 2]) -> u32
     ensures { (result ≡ made_number (insert_answer buf.old len k offered.now))
         × (out.new ≡ made_numbers (insert_answer buf.old len k offered.now))
         × (buf.new ≡ insert_octets buf.old len k offered.now) }
@@ -69,8 +54,7 @@ pub extern "C" fn wt_insert(
     made_number(corrected)
 }
 
-#[unsafe(no_mangle)]
-pub extern "C" fn wt_delete(buf: &mut [u8], len: u64, k: u64, out: &mut [u64; 2]) -> u32
+pub fn wt_delete(buf: &mut [u8], len: u64, k: u64, out: &mut [u64; 2]) -> u32
     ensures { (result ≡ made_number (delete_answer buf.old len k))
         × (out.new ≡ made_numbers (delete_answer buf.old len k))
         × (buf.new ≡ delete_octets buf.old len k) }

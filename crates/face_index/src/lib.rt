@@ -12,8 +12,7 @@ use face_reading::{looked_number, looked_numbers, made_number, made_numbers};
 use lookup::Placed;
 
 // Place, and the index's length.
-#[unsafe(no_mangle)]
-pub extern "C" fn wt_index(book: &[u8], buf: &mut [u8], out: &mut [u64; 2]) -> u32
+pub fn wt_index(book: &[u8], buf: &mut [u8], out: &mut [u64; 2]) -> u32
     ensures { (result ≡ made_number (make_answer book.now buf.old))
         × (out.new ≡ made_numbers (make_answer book.now buf.old))
         × (buf.new ≡ make_octets book.now buf.old) }
@@ -42,8 +41,7 @@ fn placed_numbers(p: Placed) -> [u64; 2]
 }
 
 // Place, and where address record k starts.
-#[unsafe(no_mangle)]
-pub extern "C" fn wt_index_entry(book: &[u8], index: &[u8], k: u64, out: &mut [u64; 2]) -> u32
+pub fn wt_index_entry(book: &[u8], index: &[u8], k: u64, out: &mut [u64; 2]) -> u32
     ensures { (result ≡ placed_number (entry_of book.now index.now k))
         × (out.new ≡ placed_numbers (entry_of book.now index.now k)) }
 {
@@ -53,14 +51,7 @@ pub extern "C" fn wt_index_entry(book: &[u8], index: &[u8], k: u64, out: &mut [u
 }
 
 // Place, whether there is a value, and where its encoding starts and ends.
-#[unsafe(no_mangle)]
-pub extern "C" fn wt_lookup_indexed(
-    book: &[u8],
-    index: &[u8],
-    k: u64,
-    tag: u32,
-    out: &mut [u64; 4],
-) -> u32
+pub fn wt_lookup_indexed(book: &[u8], index: &[u8], k: u64, tag: u32, out: &mut [u64; 4]) -> u32
     ensures { (result ≡ looked_number (indexed_of book.now index.now k tag))
         × (out.new ≡ looked_numbers (indexed_of book.now index.now k tag)) }
 {

@@ -46,8 +46,7 @@ fn judged_numbers(judged: Judged, heads: usize, cols: usize) -> [u64; 7]
 }
 
 // Place, length, count, the places of the header record and of the first address record, the columns of each table.
-#[unsafe(no_mangle)]
-pub extern "C" fn wt_judge(book: &[u8], out: &mut [u64; 7]) -> u32
+pub fn wt_judge(book: &[u8], out: &mut [u64; 7]) -> u32
     ensures { (result ≡ judged_number (judged_of book.now).judged)
         × (out.new ≡ judged_numbers (judged_of book.now)) }
 {
@@ -72,8 +71,7 @@ fn table_of(j: Judgement, address: u32) -> Columns
 }
 
 // The tags and the flags of a table, each with zeros behind; place and how many columns it has.
-#[unsafe(no_mangle)]
-pub extern "C" fn wt_columns(
+pub fn wt_columns(
     book: &[u8],
     address: u32,
     tags: &mut [u32; MOST_COLUMNS],
@@ -113,8 +111,7 @@ pub extern "C" fn wt_columns(
 }
 
 // The serial that a book has whose octets from 12 on are these.
-#[unsafe(no_mangle)]
-pub extern "C" fn wt_serial(s: &[u8]) -> u32
+pub fn wt_serial(s: &[u8]) -> u32
     ensures { result ≡ serial_of s.now }
 {
     serial::serial_of(s)

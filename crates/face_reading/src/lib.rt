@@ -8,5 +8,7 @@ mod lent;
 mod looking;
 mod version;
 
+pub use judging::{wt_columns, wt_judge, wt_serial};
 pub use lent::{made_number, made_numbers};
-pub use looking::{looked_number, looked_numbers, which_of};
+pub use looking::{looked_number, looked_numbers, which_of, wt_lookup};
+pub use version::wt_version;

@@ -36,8 +36,7 @@ pub fn looked_numbers(l: Looked) -> [u64; 4]
 }
 
 // Place, whether there is a value, and where its encoding starts and ends.
-#[unsafe(no_mangle)]
-pub extern "C" fn wt_lookup(book: &[u8], number: u64, tag: u32, out: &mut [u64; 4]) -> u32
+pub fn wt_lookup(book: &[u8], number: u64, tag: u32, out: &mut [u64; 4]) -> u32
     ensures { (result ≡ looked_number (lookup_of book.now (which_of number) tag))
         × (out.new ≡ looked_numbers (lookup_of book.now (which_of number) tag)) }
 {

@@ -2,8 +2,7 @@
 ghost use Rattle.std.specs.Prelude.{◌≡◌};
 ghost use Rattle.face_reading.specs.Version.{version};
 
-#[unsafe(no_mangle)]
-pub extern "C" fn wt_version() -> u32
+pub fn wt_version() -> u32
     ensures { result ≡ version }
 {
     10400

@@ -43,8 +43,7 @@ fn reason_numbers(r: Reason) -> [u64; 4]
 }
 
 // Place, the reason, the place that shows it, and the tag of the column of another type.
-#[unsafe(no_mangle)]
-pub extern "C" fn wt_why(book: &[u8], number: u64, tag: u32, out: &mut [u64; 4]) -> u32
+pub fn wt_why(book: &[u8], number: u64, tag: u32, out: &mut [u64; 4]) -> u32
     ensures { (result ≡ reason_number (why_of book.now (which_of number) tag))
         × (out.new ≡ reason_numbers (why_of book.now (which_of number) tag)) }
 {

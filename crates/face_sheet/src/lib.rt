@@ -10,8 +10,7 @@ ghost use Rattle.importing.specs.From.{from_answer, from_octets};
 use face_reading::{made_number, made_numbers};
 
 // Place, and the sheet's length.
-#[unsafe(no_mangle)]
-pub extern "C" fn wt_sheet_length(book: &[u8], tags: &[u32], out: &mut [u64; 2]) -> u32
+pub fn wt_sheet_length(book: &[u8], tags: &[u32], out: &mut [u64; 2]) -> u32
     ensures { (result ≡ made_number (length_answer book.now tags.now))
         × (out.new ≡ made_numbers (length_answer book.now tags.now)) }
 {
@@ -20,8 +19,7 @@ pub extern "C" fn wt_sheet_length(book: &[u8], tags: &[u32], out: &mut [u64; 2])
     made_number(measured)
 }
 
-#[unsafe(no_mangle)]
-pub extern "C" fn wt_sheet(book: &[u8], tags: &[u32], text: &mut [u8], out: &mut [u64; 2]) -> u32
+pub fn wt_sheet(book: &[u8], tags: &[u32], text: &mut [u8], out: &mut [u64; 2]) -> u32
     ensures { (result ≡ made_number (export_answer book.now tags.now text.old))
         × (out.new ≡ made_numbers (export_answer book.now tags.now text.old))
         × (text.new ≡ export_octets book.now tags.now text.old) }
@@ -32,8 +30,7 @@ pub extern "C" fn wt_sheet(book: &[u8], tags: &[u32], text: &mut [u8], out: &mut
 }
 
 // Place, and the book's length.
-#[unsafe(no_mangle)]
-pub extern "C" fn wt_from_sheet(
+pub fn wt_from_sheet(
     text: &[u8],
     flags: &[u32],
     htags: &[u32],

@@ -88,8 +88,7 @@ fn settle(state: &mut [u64; 10], o: Outcome) -> u32
 
 // ---- the ten calls
 
-#[unsafe(no_mangle)]
-pub extern "C" fn wt_begin(
+pub fn wt_begin(
     state: &mut [u64; 10],
     htags: &[u32],
     hflags: &[u32],
@@ -113,8 +112,7 @@ pub extern "C" fn wt_begin(
     settle(state, outcome)
 }
 
-#[unsafe(no_mangle)]
-pub extern "C" fn wt_open(state: &mut [u64; 10], buf: &mut [u8]) -> u32
+pub fn wt_open(state: &mut [u64; 10], buf: &mut [u8]) -> u32
     ensures { (result ≡ outcome_number (open_outcome (state_of state.old) buf.old))
         × (state.new ≡ state_left state.old
         (open_outcome (state_of state.old) buf.old))
@@ -125,8 +123,7 @@ pub extern "C" fn wt_open(state: &mut [u64; 10], buf: &mut [u8]) -> u32
     settle(state, outcome)
 }
 
-#[unsafe(no_mangle)]
-pub extern "C" fn wt_close(state: &mut [u64; 10], buf: &mut [u8]) -> u32
+pub fn wt_close(state: &mut [u64; 10], buf: &mut [u8]) -> u32
     ensures { (result ≡ outcome_number (close_outcome (state_of state.old) buf.old))
         × (state.new ≡ state_left state.old
         (close_outcome (state_of state.old) buf.old))
@@ -137,8 +134,7 @@ pub extern "C" fn wt_close(state: &mut [u64; 10], buf: &mut [u8]) -> u32
     settle(state, outcome)
 }
 
-#[unsafe(no_mangle)]
-pub extern "C" fn wt_finish(state: &mut [u64; 10], buf: &mut [u8]) -> u32
+pub fn wt_finish(state: &mut [u64; 10], buf: &mut [u8]) -> u32
     ensures { (result ≡ outcome_number (finish_outcome (state_of state.old) buf.old))
         × (state.new ≡ state_left state.old
         (finish_outcome (state_of state.old) buf.old))
@@ -149,8 +145,7 @@ pub extern "C" fn wt_finish(state: &mut [u64; 10], buf: &mut [u8]) -> u32
     settle(state, outcome)
 }
 
-#[unsafe(no_mangle)]
-pub extern "C" fn wt_give_number(state: &mut [u64; 10], buf: &mut [u8], tag: u32, value: u32) -> u32
+pub fn wt_give_number(state: &mut [u64; 10], buf: &mut [u8], tag: u32, value: u32) -> u32
     ensures { (result ≡ outcome_number
         (give_outcome (state_of state.old) buf.old tag (Number value)))
         × (state.new ≡ state_left state.old
@@ -163,8 +158,7 @@ pub extern "C" fn wt_give_number(state: &mut [u64; 10], buf: &mut [u8], tag: u32
 }
 
 // Any number but 0 is yes.
-#[unsafe(no_mangle)]
-pub extern "C" fn wt_give_truth(state: &mut [u64; 10], buf: &mut [u8], tag: u32, yes: u32) -> u32
+pub fn wt_give_truth(state: &mut [u64; 10], buf: &mut [u8], tag: u32, yes: u32) -> u32
     ensures { (result ≡ outcome_number
         (give_outcome (state_of state.old) buf.old tag (Truth (not (eqb yes 0)))))
         × (state.new ≡ state_left state.old
@@ -178,8 +172,7 @@ pub extern "C" fn wt_give_truth(state: &mut [u64; 10], buf: &mut [u8], tag: u32,
 }
 
 // Octets without their length or their final 0.
-#[unsafe(no_mangle)]
-pub extern "C" fn wt_give_octets(state: &mut [u64; 10], buf: &mut [u8], tag: u32, s: &[u8]) -> u32
+pub fn wt_give_octets(state: &mut [u64; 10], buf: &mut [u8], tag: u32, s: &[u8]) -> u32
     ensures { (result ≡ outcome_number
         (give_outcome (state_of state.old) buf.old tag (Octets s.now)))
         × (state.new ≡ state_left state.old
@@ -193,8 +186,7 @@ pub extern "C" fn wt_give_octets(state: &mut [u64; 10], buf: &mut [u8], tag: u32
 }
 
 // The count of a list, whose elements follow one at a time.
-#[unsafe(no_mangle)]
-pub extern "C" fn wt_give_list(state: &mut [u64; 10], buf: &mut [u8], tag: u32, count: u32) -> u32
+pub fn wt_give_list(state: &mut [u64; 10], buf: &mut [u8], tag: u32, count: u32) -> u32
     ensures { (result ≡ outcome_number
         (give_outcome (state_of state.old) buf.old tag (Count count)))
         × (state.new ≡ state_left state.old
@@ -206,8 +198,7 @@ pub extern "C" fn wt_give_list(state: &mut [u64; 10], buf: &mut [u8], tag: u32, 
     settle(state, outcome)
 }
 
-#[unsafe(no_mangle)]
-pub extern "C" fn wt_add_number(state: &mut [u64; 10], buf: &mut [u8], value: u32) -> u32
+pub fn wt_add_number(state: &mut [u64; 10], buf: &mut [u8], value: u32) -> u32
     ensures { (result ≡ outcome_number
         (element_outcome (state_of state.old) buf.old (Number value)))
         × (state.new ≡ state_left state.old
@@ -219,8 +210,7 @@ pub extern "C" fn wt_add_number(state: &mut [u64; 10], buf: &mut [u8], value: u3
     settle(state, outcome)
 }
 
-#[unsafe(no_mangle)]
-pub extern "C" fn wt_add_octets(state: &mut [u64; 10], buf: &mut [u8], s: &[u8]) -> u32
+pub fn wt_add_octets(state: &mut [u64; 10], buf: &mut [u8], s: &[u8]) -> u32
     ensures { (result ≡ outcome_number
         (element_outcome (state_of state.old) buf.old (Octets s.now)))
         × (state.new ≡ state_left state.old
