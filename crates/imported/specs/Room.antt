@@ -1,5 +1,5 @@
 -- Where there is room, no call is refused that gives a sound book: what its records take is what the calls bring.
-use Rattle.std.specs.Prelude.{ℕ, ◌+◌, ◌≤◌, ◌≡◌, refl, List, [], ◌∷◌, ◌++◌, length}
+use Rattle.std.specs.Prelude.{ℕ, ◌+◌, ◌≤◌, ◌≡◌, refl, List, [], ◌∷◌, length}
 use Rattle.std.proofs.Common.{arith, length-append, ne_eqb, lt-ltb, le-leb}
 use Rattle.answers.specs.Numbers.{most_octets, most_opened}
 use Rattle.answers.specs.declared.Verdict.TheVariants.{Clear as clear}

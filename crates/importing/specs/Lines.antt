@@ -1,10 +1,10 @@
 -- The ways of the code over a line, as it goes from field to field: what the writer's calls answer, and what is laid
 -- down. Assumes nothing.
-use Rattle.std.specs.Prelude.{ℕ, ◌+◌, Bool, true, false, cond, List, [], ◌∷◌, ◌++◌, eqb, ltb, length, drop, get_or}
+use Rattle.std.specs.Prelude.{ℕ, ◌+◌, Bool, true, false, cond, List, [], ◌∷◌, eqb, ltb, length, drop, get_or}
 use Rattle.answers.specs.Numbers.{breaks_rule, most_opened}
 use Rattle.answers.specs.declared.Verdict.{Verdict}
 use Rattle.answers.specs.declared.Verdict.TheVariants.{Clear as clear, Refused}
-use Rattle.answers.specs.Verdict.{refused, ◌then◌, need}
+use Rattle.answers.specs.Verdict.{refused, need}
 use Rattle.presence.specs.Presence.{room}
 use Rattle.entry.specs.Present.{marks}
 use Rattle.entry.specs.Record.{values_of, row_octets}

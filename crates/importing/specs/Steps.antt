@@ -1,6 +1,6 @@
 -- The call as its code goes on once the first line is read: s are the lines behind it, of these tags, and stand at
 -- `width`.
-use Rattle.std.specs.Prelude.{ℕ, ◌+◌, ◌-◌, List, [], ◌∷◌, ◌++◌, length, replicate}
+use Rattle.std.specs.Prelude.{ℕ, ◌+◌, ◌-◌, List, [], ◌++◌, length, replicate}
 use Rattle.octets.specs.Splice.{splice, stored}
 use Rattle.answers.specs.declared.Verdict.{Verdict}
 use Rattle.answers.specs.declared.Verdict.TheVariants.{Clear as clear, Refused}

@@ -1,6 +1,6 @@
 -- The fields that the code goes over are those of a sheet: of a text that the scan takes, each line's row is the one
 -- that the sheet holds, and the writer's calls for it are those of the table.
-use Rattle.std.specs.Prelude.{ℕ, suc, ◌+◌, ◌-◌, ◌%◌, ◌^◌, ◌≤◌, ◌<◌, ◌≡◌, refl, Bool, true, false, not, cond, List, [], ◌∷◌, ◌++◌, eqb, ltb, length, take, drop}
+use Rattle.std.specs.Prelude.{ℕ, suc, ◌+◌, ◌-◌, ◌%◌, ◌≤◌, ◌≡◌, refl, Bool, true, false, not, cond, List, [], ◌∷◌, ◌++◌, eqb, ltb, length, take, drop}
 use Rattle.std.proofs.Common.{zero-add, mod-eq_of_lt, arith, sym, ap, ap₂, ◌∙◌, inl, inr, append_assoc, length-append, take_at, drop_at, ne_eqb, ltb-true}
 use Rattle.std.proofs.Math.Decide.{ℕ_discrete}
 use Rattle.std.proofs.Math.Option.{Option, none, some}

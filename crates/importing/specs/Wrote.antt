@@ -1,9 +1,8 @@
 -- The book that is written, where nothing is refused: tables, header record and rows laid down one behind the other,
 -- and finished, are the book of the sheet's table.
-use Rattle.std.specs.Prelude.{ℕ, suc, ◌+◌, ◌-◌, ◌*◌, ◌%◌, ◌/◌, ◌^◌, ◌≤◌, ◌<◌, ◌≡◌, true, false, eqb, leb, take, drop, get_or}
+use Rattle.std.specs.Prelude.{ℕ, suc, ◌+◌, ◌%◌, ◌/◌, ◌^◌, ◌≤◌, ◌<◌, ◌≡◌, true, false, eqb, leb, take, drop, get_or}
 use Rattle.std.proofs.Common.{arith, ap₂, ◌∙◌, drop_of_length-le, Fits}
 use Rattle.std.proofs.Math.Path.{refl, sym, ap}
-use Rattle.std.proofs.Math.Option.{some}
 use mathlib.Core.List.{List, [], ◌∷◌, ◌++◌, append-nil, append_assoc}
 use Rattle.std.proofs.Math.ListN.{length, length-append}
 use Rattle.std.specs.Int.{w32}
@@ -26,7 +25,7 @@ use Rattle.entry.specs.Record.{present_in, present-is, values-behind, row-long, 
 use Rattle.entry.specs.Slots.{key_bit, slots_from, slots-many}
 use Rattle.entry.specs.Read.{row_in, row-in}
 use Rattle.book.specs.Rows.{rows_octets}
-use Rattle.book.specs.Book.{Sound, book_octets, head_slots, row_slots}
+use Rattle.book.specs.Book.{book_octets, head_slots, row_slots}
 use Rattle.book.specs.JudgeCases.{slots-head}
 use Rattle.writing.specs.State.{room_at}
 use Rattle.writing.specs.declared.Writing.{Writing}

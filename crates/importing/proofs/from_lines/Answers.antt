@@ -1,6 +1,6 @@
 use Rattle.std.proofs.Common.{rules}
-use Rattle.importing.specs.Cases.{rest_cases, rest_ends, rest-codes, rest-few, rest-taken, rest-types}
-use Rattle.importing.specs.Cases.{rest-answer, rest-octets}
+use Rattle.importing.proofs.FirstCases.{rest_cases, rest_ends, rest-codes, rest-few, rest-taken, rest-types}
+use Rattle.importing.proofs.FirstCases.{rest-answer, rest-octets}
 use Rattle.importing.proofs.from_lines.Goals as goal
 
 pub codes_of-codes-requires : goal.codes_of-codes-requires

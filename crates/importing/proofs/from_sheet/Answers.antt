@@ -1,5 +1,5 @@
 use Rattle.std.proofs.Common.{rules}
-use Rattle.importing.specs.Cases.{first_cases, first_ends}
+use Rattle.importing.proofs.FirstCases.{first_cases, first_ends}
 use Rattle.importing.proofs.from_sheet.Goals as goal
 
 pub read_first_line-first-requires : goal.read_first_line-first-requires
