@@ -45,10 +45,10 @@ def pairs(text):
 
 
 def meanings():
-    """What each definition of the specs names in its equations or fields, by its name; an operator by its word."""
+    """What each definition of the specs, and of what stands over them in proofs, names in its equations or fields, by its name; an operator by its word."""
     says = {}
     start = r'^(?:(?:pub|unfoldable|abbrev|record) )+([\w·◌-]+)(?: .*)? :.*\n((?:.+\n)*)'
-    for path in CRATES.glob('*/specs/*.antt'):
+    for path in [*CRATES.glob('*/specs/*.antt'), *CRATES.glob('*/proofs/*.antt')]:
         for found in re.finditer(start, path.read_text(), re.M):
             lines = [line for line in found[2].splitlines() if not line.startswith('--')]
             says.setdefault(found[1].strip('◌'), set()).update(words(' '.join(lines)))
