@@ -59,7 +59,7 @@ else
 # Each object is built over what earlier checks kept, and what none of them proved is proved first.
 $(ARCHIVE): $(shell find crates -name out -prune -o \( -name '*.rt' -o -name '*.antt' \) -print) crates.txt $(LIB)/from
 	@command -v rt >/dev/null || { echo "make: rt is missing: the Rattle kit proves the library" >&2; exit 1; }
-	@echo "make: the library is proved first: about half an hour where nothing of it is proved yet" >&2
+	@echo "make: the library is proved first: some minutes to half an hour where nothing of it is proved yet" >&2
 	(for f in $(FACES); do (cd crates/$$f && rt lib) || exit 1; done) > $(LIB)/lib.log 2>&1 || \
 		{ tail -n 20 $(LIB)/lib.log; exit 1; }
 	cd $(LIB) && for f in $(FACES); do $(AR) x ../../crates/$$f/out/lib$$f.a || exit 1; done
