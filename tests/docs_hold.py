@@ -165,9 +165,10 @@ def calls():
 def exports():
     """What C links: each call of a library for C programs is exported once, by the thin crate over it, with the same
     arguments and the same clauses."""
-    for thin in sorted(CRATES.glob('*_c/src/lib.rt')):
-        crate = thin.parent.parent.name.removesuffix('_c')
-        given, called = heads([thin]), heads((CRATES / crate / 'src').glob('*.rt'))
+    for folder in sorted(f for f in CRATES.glob('face_*') if not f.name.endswith('_c')):
+        crate, thin = folder.name, CRATES / (folder.name + '_c') / 'src' / 'lib.rt'
+        want(thin.is_file(), f'{crate}_c, which exports the calls of {crate}')
+        given, called = heads([thin] if thin.is_file() else []), heads((folder / 'src').glob('*.rt'))
         for name in sorted(given.keys() | called.keys()):
             want(given.get(name) == called.get(name), f'{name} of {crate}_c with the clauses that it has in {crate}')
 
