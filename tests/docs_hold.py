@@ -45,7 +45,8 @@ def pairs(text):
 
 
 def meanings():
-    """What each definition of the specs, and of what stands over them in proofs, names in its equations or fields, by its name; an operator by its word."""
+    """What each definition of the specs, and of what stands over them in proofs, names in its equations or fields, by
+    its name; an operator by its word."""
     says = {}
     start = r'^(?:(?:pub|unfoldable|abbrev|record) )+([\w·◌-]+)(?: .*)? :.*\n((?:.+\n)*)'
     for path in [*CRATES.glob('*/specs/*.antt'), *CRATES.glob('*/proofs/*.antt')]:

@@ -1,10 +1,12 @@
 #!/usr/bin/env python3
-"""Brings this repository's own ghost names to today's spelling: definitions, fields, constructors and lemmas in snake case.
+"""Brings this repository's own ghost names to today's spelling: definitions, fields, constructors and lemmas in snake
+case.
 
-usage: python3 tools/respell.py [--list] [FILE..]      at the top of the repository; with no FILE every .rt and .antt file of crates/
+usage: python3 tools/respell.py [--list] [FILE..]
 
-Run once, right after the kit's port.py, which respells only some of them. Types, modules and names of the source keep their
-spelling; text in strings and octets' literals stay. --list prints the names that change, and stops with a word on any two that would fall together.
+At the top of the repository; with no FILE, every .rt and .antt file of crates/. Run once, right after the kit's port.py,
+which respells only some of them. Types, modules and names of the source keep their spelling; text in strings and octets'
+literals stays. --list prints the names that change, and each two that would fall together.
 """
 import collections
 import pathlib

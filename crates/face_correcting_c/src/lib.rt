@@ -3,7 +3,8 @@
 
 ghost use Rattle.std.specs.Prelude.{◌≡◌};
 ghost use Rattle.std.proofs.Math.Option.{none, some};
-ghost use Rattle.correcting.specs.Correct.{set_answer, set_octets, insert_answer, insert_octets, delete_answer, delete_octets};
+ghost use Rattle.correcting.specs.Correct.{set_answer, set_octets, insert_answer, insert_octets};
+ghost use Rattle.correcting.specs.Correct.{delete_answer, delete_octets};
 ghost use Rattle.face_reading.specs.Lent.{made_number, made_numbers};
 ghost use Rattle.face_reading.specs.Looking.{which_of};
 

@@ -2,8 +2,10 @@
 #![tactic(auto)]
 
 ghost use Rattle.std.specs.Prelude.{◌≡◌, not, eqb};
-ghost use Rattle.framing.specs.Frame.{open_outcome, open_octets, close_outcome, close_octets, finish_outcome, finish_octets};
-ghost use Rattle.giving.specs.Give.{Number, Truth, Octets, Count, give_outcome, give_octets, element_outcome, element_octets};
+ghost use Rattle.framing.specs.Frame.{open_outcome, open_octets, close_outcome, close_octets};
+ghost use Rattle.framing.specs.Frame.{finish_outcome, finish_octets};
+ghost use Rattle.giving.specs.Give.{Number, Truth, Octets, Count, give_outcome, give_octets};
+ghost use Rattle.giving.specs.Give.{element_outcome, element_octets};
 ghost use Rattle.begin.specs.Begin.{begin_outcome, begin_octets};
 ghost use Rattle.face_writing.specs.Calling.{state_of, outcome_number, state_left};
 
