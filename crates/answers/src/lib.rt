@@ -1,36 +1,25 @@
-// The answers' one vocabulary: a refusal is its number and its place, a verdict is clear or a refusal, a walk over a
-// value ends or breaks, what was made has a length.
+// The answers' one vocabulary: a refusal is its number and its place, an answer is a value or a refusal, a verdict is
+// an answer without a value, a walk over a value ends or breaks.
 // Each refusal number and each house limit is named here, and nowhere else in code.
 #![tactic(auto)]
 
-ghost use Rattle.std.specs.Prelude.{◌≡◌};
-ghost use Rattle.answers.specs.Verdict.{refused};
+ghost use Rattle.std.specs.Prelude.{◌≡◌, Err};
+ghost use Rattle.answers.specs.Verdict.{refusal};
 
-#[derive(Clone, Copy)]
+// A number, and no enum: `refuse` takes every number, and calls for C answer it as it is.
+#[derive(Clone, Copy, Debug, PartialEq, Eq)]
 pub struct Refusal {
     pub number: u32,
     pub place: usize,
 }
 
-#[derive(Clone, Copy)]
-pub enum Verdict {
-    Clear,
-    Refused(Refusal),
-}
+// What a call answers: a value, or the refusal.
+pub type Answer<T> = Result<T, Refusal>;
+
+pub type Verdict = Answer<()>;
 
 // Counted from the value's start: the octet behind its last, or where it breaks.
-#[derive(Clone, Copy)]
-pub enum Walk {
-    Ends(usize),
-    Broken(usize),
-}
-
-// The length of what was made, or the refusal.
-#[derive(Clone, Copy)]
-pub enum Made {
-    Done(usize),
-    Refused(Refusal),
-}
+pub type Walk = Result<usize, usize>;
 
 pub const TOO_LONG: u32 = 1;
 
@@ -81,8 +70,8 @@ pub const MOST_RECORDS: usize = 65535;
 // The records of a writing, the header record first.
 pub const MOST_OPENED: usize = MOST_RECORDS + 1;
 
-pub fn refuse(number: u32, place: usize) -> Verdict
-    ensures { result ≡ refused number place }
+pub fn refuse<T>(number: u32, place: usize) -> Answer<T>
+    ensures { result ≡ Err (refusal number place) }
 {
-    Verdict::Refused(Refusal { number, place })
+    Err(Refusal { number, place })
 }

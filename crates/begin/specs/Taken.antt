@@ -6,7 +6,7 @@ use Rattle.std.proofs.lemmas.Bool.{not-true}
 use Rattle.octets.specs.Octets.{Octets, octets-append}
 use Rattle.octets.specs.Word.{le_of, octets-le_of}
 use Rattle.answers.specs.Numbers.{many_columns, unknown_type, repeated_tag, most_columns}
-use Rattle.answers.specs.declared.Verdict.TheVariants.{Clear as clear}
+use Rattle.answers.specs.Verdict.{clear}
 use Rattle.answers.specs.Verdict.{need, apart, unmet}
 use Rattle.value.specs.Types.{is_type}
 use Rattle.table.specs.Repeat.{memb}

@@ -11,21 +11,18 @@ ghost use Rattle.begin.specs.Begin.{no_writing, begin_outcome, begin_octets};
 
 use answers::{MOST_COLUMNS, Verdict, refuse};
 use octets::put_word;
-use table::Found;
 use writing::{Outcome, Writing};
 
 // The rows before the first whose type is not among the ten.
 fn known(tags: &[u32]) -> usize
     ensures { (result ≡ known_to tags.now) × (result ≤ length tags.now) }
 {
-    let mut i = 0;
-    while i < tags.len() {
-        if value::form_of(tags[i]) == value::UNKNOWN {
+    for (i, tag) in tags.iter().enumerate() {
+        if value::form_of(*tag) == value::UNKNOWN {
             return i;
         }
-        i += 1;
     }
-    i
+    tags.len()
 }
 
 // The tags of a table whose rows count from `base`.
@@ -37,14 +34,13 @@ fn judge_tags(tags: &[u32], base: usize) -> Verdict
         return refuse(answers::MANY_COLUMNS, base + MOST_COLUMNS);
     }
     let k = known(tags);
-    let found = table::first_repeat(&tags[0..k]);
-    if let Found::At(i) = found {
+    if let Some(i) = table::first_repeat(&tags[0..k]) {
         return refuse(answers::REPEATED_TAG, base + i);
     }
     if k < tags.len() {
         return refuse(answers::UNKNOWN_TYPE, base + k);
     }
-    Verdict::Clear
+    Ok(())
 }
 
 // Both tables, and room for what begin writes in n octets.
@@ -57,18 +53,12 @@ pub fn judge_begin(htags: &[u32], hflags: &[u32], tags: &[u32], flags: &[u32], n
     if tags.len() != flags.len() {
         return refuse(answers::OUT_OF_TURN, 0);
     }
-    let v = judge_tags(htags, 0);
-    let Verdict::Clear = v else {
-        return v;
-    };
-    let w = judge_tags(tags, MOST_COLUMNS);
-    let Verdict::Clear = w else {
-        return w;
-    };
+    judge_tags(htags, 0)?;
+    judge_tags(tags, MOST_COLUMNS)?;
     if n < 24 + 8 * (htags.len() + tags.len()) {
         return refuse(answers::NO_ROOM, 0);
     }
-    Verdict::Clear
+    Ok(())
 }
 
 // Version, serial 0, count 0 and the size of the metadata.
@@ -96,10 +86,8 @@ fn put_columns(buf: &mut [u8], at: usize, tags: &[u32], flags: &[u32])
         × (at + 8 * length tags.now ≤ length buf.old) }
     ensures { buf.new ≡ stored buf.old at (columns_octets (columns_from tags.now flags.now)) }
 {
-    let mut i = 0;
-    while i < tags.len() {
-        put_row(buf, at + 8 * i, tags[i], flags[i]);
-        i += 1;
+    for (i, tag) in tags.iter().enumerate() {
+        put_row(buf, at + 8 * i, *tag, flags[i]);
     }
 }
 
@@ -159,7 +147,7 @@ pub fn begin(
         × (buf.new ≡ begin_octets htags.now hflags.now tags.now flags.now buf.old) }
 {
     let v = judge_begin(htags, hflags, tags, flags, buf.len());
-    let Verdict::Clear = v else {
+    let Ok(()) = v else {
         return writing::settle(v, st, st);
     };
     let h = htags.len();

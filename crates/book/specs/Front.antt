@@ -3,12 +3,12 @@
 -- book's end, the serial. A reader may stop behind the tables, or behind the header record; the judgement is those
 -- parts,
 -- then what follows (`judge-tables`, `judge-front`).
-use Rattle.std.specs.Prelude.{ℕ, ◌+◌, ◌≡◌, refl, List, eqb, drop}
+use Rattle.std.specs.Prelude.{Ok, ℕ, ◌+◌, ◌≡◌, refl, List, eqb, drop}
 use Rattle.octets.specs.Word.{word_of}
 use Rattle.serial.specs.Serial.{serial_of}
 use Rattle.answers.specs.Numbers.{wrong_serial}
-use Rattle.answers.specs.declared.Verdict.{Verdict}
-use Rattle.answers.specs.declared.Verdict.TheVariants.{Clear as clear, Refused}
+use Rattle.answers.specs.Verdict.{Verdict}
+use Rattle.answers.specs.Verdict.{Refused}
 use Rattle.answers.specs.Verdict.{◌then◌, need, then-assoc}
 use Rattle.book.specs.Rows.{due_at, records_from}
 use Rattle.book.specs.Book.{head_slots, row_slots, heads_in, cols_in, records_in, records_place, tables_at, all_at}
@@ -54,9 +54,9 @@ judge-parts xs = go (header_at xs) (tables_at (drop 12 xs)) (head_at xs) (record
   where
     go : (a b c d e : Verdict) → (a then ((b then (c then d)) then e)) ≡ (a then (b then (c then (d then e))))
     go (Refused r) b c d e = refl
-    go clear (Refused r) c d e = refl
-    go clear clear (Refused r) d e = refl
-    go clear clear clear d e = refl
+    go (Ok _) (Refused r) c d e = refl
+    go (Ok _) (Ok _) (Refused r) d e = refl
+    go (Ok _) (Ok _) (Ok _) d e = refl
 
 pub judge-tables : (xs : List ℕ) → judge xs ≡ (through_tables xs then head_at xs then behind_front xs)
 judge-tables xs = rw (judge-parts xs) (then-assoc (header_at xs) (tables_at (drop 12 xs)) (head_at xs then behind_front xs))
@@ -67,5 +67,5 @@ judge-front xs = rw (judge-parts xs) (go (header_at xs) (tables_at (drop 12 xs))
   where
     go : (a b c d : Verdict) → (a then (b then (c then d))) ≡ ((a then (b then c)) then d)
     go (Refused r) b c d = refl
-    go clear (Refused r) c d = refl
-    go clear clear c d = refl
+    go (Ok _) (Refused r) c d = refl
+    go (Ok _) (Ok _) c d = refl

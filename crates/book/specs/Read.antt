@@ -6,7 +6,7 @@ use Rattle.std.proofs.Common.{arith, sym, ap, ◌∙◌, length-append}
 use Rattle.std.proofs.Math.Seq.{drop-append_seam}
 use Rattle.octets.specs.Octets.{Octets}
 use Rattle.octets.specs.Word.{word_of}
-use Rattle.answers.specs.declared.Verdict.TheVariants.{Clear as clear}
+use Rattle.answers.specs.Verdict.{clear}
 use Rattle.entry.specs.Present.{Row}
 use Rattle.entry.specs.Record.{Slot, row_octets, row-size}
 use Rattle.entry.specs.Read.{row_in, row-in}

@@ -4,8 +4,8 @@ use Rattle.std.specs.Prelude.{ℕ, ◌≤◌, ◌<◌, ◌≡◌, List, leb, len
 use Rattle.std.proofs.Common.{arith, sym, ap, ◌∙◌, leb-true, le-leb}
 use Rattle.octets.specs.Octets.{octet_at, Octets, octets-take}
 use Rattle.answers.specs.Numbers.{out_of_turn, breaks_rule, no_room, most_octets}
-use Rattle.answers.specs.declared.Verdict.{Verdict}
-use Rattle.answers.specs.declared.Verdict.TheVariants.{Clear as clear}
+use Rattle.answers.specs.Verdict.{Verdict}
+use Rattle.answers.specs.Verdict.{clear}
 use Rattle.answers.specs.Verdict.{need, kept, both, apart, met, unmet}
 use Rattle.book.specs.Book.{Book, Sound, book_octets, judge, judge-back}
 use Rattle.book.specs.Whole.{judge-sound}

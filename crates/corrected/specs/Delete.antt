@@ -1,15 +1,14 @@
 -- Deleting record k: demand 2, the call is done exactly when what it asks holds; demand 3, it leaves the corrected book.
 use Prim.Native.Nat.{ℕ, ◌<◌}
 use Rattle.std.proofs.Common.{arith, ◌∙◌, length-take-le, ltb-true, lt-ltb}
-use Rattle.std.specs.Prelude.{◌≡◌, ltb}
+use Rattle.std.specs.Prelude.{Ok, ◌≡◌, ltb}
 use Rattle.std.proofs.Math.Path.{ap}
 use mathlib.Core.List.{List, []}
 use Rattle.std.proofs.Math.ListN.{length, take}
 use Rattle.octets.specs.Octets.{Octets}
 use Rattle.answers.specs.Numbers.{out_of_turn, breaks_rule}
-use Rattle.answers.specs.declared.Made.TheVariants as made
 use Rattle.answers.specs.Made.{answered-done, done-answered}
-use Rattle.answers.specs.declared.Verdict.TheVariants.{Clear as clear}
+use Rattle.answers.specs.Verdict.{clear}
 use Rattle.answers.specs.Verdict.{need, both, apart, met, unmet}
 use Rattle.book.specs.Book.{Book, book_octets, count_in}
 use Rattle.editing.specs.Put.{corrected_of}
@@ -32,7 +31,7 @@ module _ (d : List ℕ) (len k : ℕ) where
       record { on = x; within = rw c at h; others = rw c at g }
 
   -- answered with a new length: what is asked holds
-  pub delete-may : Octets d → (m : ℕ) → delete_answer d len k ≡ made.Done m → DeleteMay d len k
+  pub delete-may : Octets d → (m : ℕ) → delete_answer d len k ≡ Ok m → DeleteMay d len k
   unfolding delete_answer delete_at
   delete-may od m h =
       let xs : List ℕ = take len d in
@@ -57,7 +56,7 @@ module _ (d : List ℕ) (len k : ℕ) where
         (both (met out_of_turn 0 (lt-ltb k (count_in (take len d)) (rw c x.within))) (met breaks_rule 0 (lt-ltb 1 (count_in (take len d)) (rw c x.others))))
 
     -- what is asked holds: answered with the corrected book's length
-    pub delete-answered : delete_answer d len k ≡ made.Done (length (book_octets (edit k 1 [] b)))
+    pub delete-answered : delete_answer d len k ≡ Ok (length (book_octets (edit k 1 [] b)))
     unfolding delete_answer
     delete-answered = done-answered (delete_at d len k) (length (delete_book d len k)) _ delete-clear (ap length delete-book)
 
@@ -66,7 +65,7 @@ pub record DeleteDone (d : List ℕ) (len k m : ℕ) : Type 0 where
   pub may : DeleteMay d len k
   pub corrects : Corrects d len (delete_octets d len k) m may.on.book (edit k 1 [] may.on.book)
 
-from-may : (d : List ℕ) (len k m : ℕ) → DeleteMay d len k → delete_answer d len k ≡ made.Done m → DeleteDone d len k m
+from-may : (d : List ℕ) (len k m : ℕ) → DeleteMay d len k → delete_answer d len k ≡ Ok m → DeleteDone d len k m
 unfolding delete_answer delete_octets
 from-may d len k m x h =
     let b : Book = x.on.book in
@@ -82,5 +81,5 @@ from-may d len k m x h =
     }
 
 -- Deleting record k: where the call is answered with a new length it leaves the corrected book.
-pub delete-done : (d : List ℕ) → Octets d → (len k m : ℕ) → delete_answer d len k ≡ made.Done m → DeleteDone d len k m
+pub delete-done : (d : List ℕ) → Octets d → (len k m : ℕ) → delete_answer d len k ≡ Ok m → DeleteDone d len k m
 delete-done d od len k m h = from-may d len k m (delete-may d len k od m h) h

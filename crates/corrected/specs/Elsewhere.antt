@@ -5,8 +5,8 @@ use Rattle.std.proofs.Common.{arith, sym, ap, ap₂, ◌∙◌, get_or-set_same,
 use Rattle.std.proofs.Math.Option.{Option, none}
 use Rattle.table.specs.Table.{Column}
 use Rattle.table.specs.Columns.{tags_of}
-use Rattle.table.specs.declared.Found.{Found}
-use Rattle.table.specs.declared.Found.TheVariants.{At, Nothing}
+use Rattle.table.specs.Found.{Found}
+use Rattle.table.specs.Found.{At, Nothing}
 use Rattle.entry.specs.Present.{Row}
 use Rattle.entry.specs.Record.{row-long}
 use Rattle.book.specs.Book.{Book, count_in}

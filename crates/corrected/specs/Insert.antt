@@ -1,17 +1,16 @@
 -- Inserting a record before record k: demand 2, the call is done exactly when what it asks holds; demand 3, it leaves the corrected book.
-use Prim.Native.Nat.{ℕ, ◌+◌, ◌^◌, ◌≤◌, ◌<◌}
+use Prim.Native.Nat.{ℕ, ◌^◌, ◌≤◌, ◌<◌}
 use Rattle.std.proofs.Common.{arith, sym, ap₂, ◌∙◌, leb-true, le-leb, ltb-true, lt-ltb, eqb-true, eq-eqb}
-use Rattle.std.specs.Prelude.{◌≡◌, refl, true, eqb, ltb, leb, drop}
+use Rattle.std.specs.Prelude.{Ok, ◌≡◌, refl, true, eqb, ltb, leb, drop}
 use Rattle.std.proofs.Math.Path.{ap}
 use mathlib.Core.List.{List, [], ◌∷◌, ◌++◌, append-nil}
 use Rattle.std.proofs.Math.ListN.{length, take}
 use Rattle.octets.specs.Octets.{Octets}
 use Rattle.octets.specs.Word.{word_of}
 use Rattle.answers.specs.Numbers.{out_of_turn, breaks_rule, breaks_form, most_octets, most_records}
-use Rattle.answers.specs.declared.Made.TheVariants as made
 use Rattle.answers.specs.Made.{answered-done, done-answered}
-use Rattle.answers.specs.declared.Verdict.{Verdict}
-use Rattle.answers.specs.declared.Verdict.TheVariants.{Clear as clear, Refused}
+use Rattle.answers.specs.Verdict.{Verdict}
+use Rattle.answers.specs.Verdict.{clear, Refused}
 use Rattle.answers.specs.Verdict.{need, both, apart, met, unmet}
 use Rattle.entry.specs.Present.{Row, presence_of, presence-bits}
 use Rattle.entry.specs.Record.{is_clear, Slot, row_octets, SoundRow, record_at, keys_at, freed, freed-row, present_in, present-is, row-long, row-size, record-back, keys-back}
@@ -27,7 +26,7 @@ use Rattle.corrected.specs.Call.{BookIn, book-may, book-good, room-may, room-goo
 -- ---- the record offered
 
 is-clear : (v : Verdict) → is_clear v ≡ true → v ≡ clear
-is-clear clear e = refl
+is-clear (Ok _) e = refl
 is-clear (Refused r) e = let z : ◌≡◌ {A = ℕ} 0 1 = cc in absurd (omega arith)
 
 offered-may : (ss : List Slot) (new : List ℕ) → Octets new → offered_at ss new ≡ clear → Offered ss new
@@ -83,7 +82,7 @@ module _ (d : List ℕ) (len k : ℕ) (new : List ℕ) where
       }
 
   -- answered with a new length: what is asked holds
-  pub insert-may : Octets d → Octets new → (m : ℕ) → insert_answer d len k new ≡ made.Done m → InsertMay d len k new
+  pub insert-may : Octets d → Octets new → (m : ℕ) → insert_answer d len k new ≡ Ok m → InsertMay d len k new
   unfolding insert_answer insert_at insert_book
   insert-may od o m h =
       let xs : List ℕ = take len d in
@@ -120,7 +119,7 @@ module _ (d : List ℕ) (len k : ℕ) (new : List ℕ) where
         (room-good (length (insert_book d len k new)) d (rw w x.short) (rw w x.room)))))
 
     -- what is asked holds: answered with the corrected book's length
-    pub insert-answered : insert_answer d len k new ≡ made.Done (length (book_octets (edit k 0 (x.row ∷ []) b)))
+    pub insert-answered : insert_answer d len k new ≡ Ok (length (book_octets (edit k 0 (x.row ∷ []) b)))
     unfolding insert_answer
     insert-answered = done-answered (insert_at d len k new) (length (insert_book d len k new)) _ insert-clear (ap length insert-book)
 
@@ -130,7 +129,7 @@ pub record InsertDone (d : List ℕ) (len k : ℕ) (new : List ℕ) (m : ℕ) : 
   pub corrects : Corrects d len (insert_octets d len k new) m may.on.book (edit k 0 (may.row ∷ []) may.on.book)
 
 from-may : (d : List ℕ) (len k : ℕ) (new : List ℕ) (m : ℕ) → InsertMay d len k new
-    → insert_answer d len k new ≡ made.Done m → InsertDone d len k new m
+    → insert_answer d len k new ≡ Ok m → InsertDone d len k new m
 unfolding insert_answer insert_octets
 from-may d len k new m x h =
     let b : Book = x.on.book in
@@ -143,5 +142,5 @@ from-may d len k new m x h =
 
 -- Inserting a record before record k, k up to the count: where the call is answered with a new length it leaves the corrected book.
 pub insert-done : (d : List ℕ) → Octets d → (len k : ℕ) (new : List ℕ) → Octets new → (m : ℕ)
-    → insert_answer d len k new ≡ made.Done m → InsertDone d len k new m
+    → insert_answer d len k new ≡ Ok m → InsertDone d len k new m
 insert-done d od len k new o m h = from-may d len k new m (insert-may d len k new od o m h) h

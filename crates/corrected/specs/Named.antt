@@ -3,14 +3,14 @@ use Rattle.std.specs.Prelude.{ℕ, ◌≡◌, refl, true, false, List, [], lengt
 use Rattle.std.proofs.Common.{arith, sym, ap, ◌∙◌, append-nil, eqb-true, eq-eqb}
 use Rattle.std.proofs.Math.Option.{Option, none, some}
 use Rattle.octets.specs.Octets.{Octets}
-use Rattle.answers.specs.declared.Walk.{Walk}
-use Rattle.answers.specs.declared.Walk.TheVariants.{Ends, Broken}
+use Rattle.answers.specs.Walk.{Walk}
+use Rattle.answers.specs.Walk.{Ends, Broken}
 use Rattle.answers.specs.Walk.{ends_at}
 use Rattle.value.specs.Value.{value_of}
 use Rattle.value.specs.Form.{value-back}
 use Rattle.table.specs.Columns.{tags_of}
-use Rattle.table.specs.declared.Found.{Found}
-use Rattle.table.specs.declared.Found.TheVariants.{At, Nothing}
+use Rattle.table.specs.Found.{Found}
+use Rattle.table.specs.Found.{At, Nothing}
 use Rattle.table.specs.Found.{is_found, column_of}
 use Rattle.entry.specs.Record.{Slot, SoundEntry, no_slot}
 use Rattle.book.specs.Book.{Book, Sound, book_octets, heads_in, cols_in, count_in}

@@ -1,7 +1,7 @@
 -- Setting a value of a record, or clearing it: demand 2, the call is done exactly when what it asks holds; demand 3, it leaves the corrected book.
 use Prim.Native.Nat.{ℕ, ◌≤◌}
 use Rattle.std.proofs.Common.{arith, sym, ◌∙◌}
-use Rattle.std.specs.Prelude.{◌≡◌}
+use Rattle.std.specs.Prelude.{Ok, ◌≡◌}
 use Rattle.std.proofs.Math.Path.{ap}
 use Rattle.std.proofs.Math.Bool.{true, false, not}
 use Rattle.std.proofs.Math.Option.{Option}
@@ -10,13 +10,12 @@ use Rattle.std.proofs.Math.ListN.{length, get_or, take}
 use Rattle.std.proofs.lemmas.Bool.{not-true}
 use Rattle.octets.specs.Octets.{Octets}
 use Rattle.answers.specs.Numbers.{out_of_turn, breaks_rule, breaks_form, most_octets}
-use Rattle.answers.specs.declared.Made.TheVariants as made
 use Rattle.answers.specs.Made.{answered-done, done-answered}
-use Rattle.answers.specs.declared.Verdict.TheVariants.{Clear as clear}
+use Rattle.answers.specs.Verdict.{clear}
 use Rattle.answers.specs.Verdict.{need, both, apart, met, unmet}
 use Rattle.table.specs.Columns.{tags_of}
-use Rattle.table.specs.declared.Found.{Found}
-use Rattle.table.specs.declared.Found.TheVariants.{At}
+use Rattle.table.specs.Found.{Found}
+use Rattle.table.specs.Found.{At}
 use Rattle.table.specs.Found.{is_found, column_of}
 use Rattle.entry.specs.Record.{Slot, SoundEntry, no_slot}
 use Rattle.book.specs.Book.{Book, book_octets}
@@ -57,7 +56,7 @@ module _ (d : List ℕ) (len : ℕ) (which : Which) (t : ℕ) (e : Option (List 
       record { on = x; named = y; column = c; found = z; holds = rw (slot-for (take len d) x.book x.reads x.sound which c) at g; short = omega arith; room = omega arith }
 
   -- answered with a new length: what is asked holds
-  pub set-may : Octets d → Offers e → (m : ℕ) → set_answer d len which t e ≡ made.Done m → SetMay d len which t e
+  pub set-may : Octets d → Offers e → (m : ℕ) → set_answer d len which t e ≡ Ok m → SetMay d len which t e
   unfolding set_answer set_at entry_at
   set-may od o m h =
       let xs : List ℕ = take len d in
@@ -103,7 +102,7 @@ module _ (d : List ℕ) (len : ℕ) (which : Which) (t : ℕ) (e : Option (List 
         (ap (λ (f : Found). entry_at d (take len d) which (column_of f) e) column-is ∙ entry-good)))
 
     -- what is asked holds: answered with the corrected book's length
-    pub set-answered : set_answer d len which t e ≡ made.Done (length (book_octets (set_to which x.column e b)))
+    pub set-answered : set_answer d len which t e ≡ Ok (length (book_octets (set_to which x.column e b)))
     unfolding set_answer
     set-answered = done-answered (set_at d len which t e) (length (set_book d len which t e)) _ set-clear (ap length set-book)
 
@@ -113,7 +112,7 @@ pub record SetDone (d : List ℕ) (len : ℕ) (which : Which) (t : ℕ) (e : Opt
   pub corrects : Corrects d len (set_octets d len which t e) m may.on.book (set_to which may.column e may.on.book)
 
 from-may : (d : List ℕ) (len : ℕ) (which : Which) (t : ℕ) (e : Option (List ℕ)) (m : ℕ)
-    → SetMay d len which t e → set_answer d len which t e ≡ made.Done m → SetDone d len which t e m
+    → SetMay d len which t e → set_answer d len which t e ≡ Ok m → SetDone d len which t e m
 unfolding set_answer set_octets
 from-may d len which t e m x h =
     let b : Book = x.on.book in
@@ -127,5 +126,5 @@ from-may d len which t e m x h =
 
 -- Setting or clearing a value in an address record or the header record: where the call is answered with a new length it leaves the corrected book.
 pub set-done : (d : List ℕ) → Octets d → (len : ℕ) (which : Which) (t : ℕ) (e : Option (List ℕ)) → Offers e → (m : ℕ)
-    → set_answer d len which t e ≡ made.Done m → SetDone d len which t e m
+    → set_answer d len which t e ≡ Ok m → SetDone d len which t e m
 set-done d od len which t e o m h = from-may d len which t e m (set-may d len which t e od o m h) h

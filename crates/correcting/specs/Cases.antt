@@ -1,5 +1,5 @@
 -- The ways of the code that sets and clears a value, on plain values.
-use Rattle.std.specs.Prelude.{ℕ, ◌+◌, ◌-◌, ◌^◌, ◌≤◌, ◌<◌, ◌≡◌, Bool, true, false, not, get_or, take, drop}
+use Rattle.std.specs.Prelude.{Err, Ok, ℕ, ◌+◌, ◌-◌, ◌^◌, ◌≤◌, ◌<◌, ◌≡◌, Bool, true, false, not, get_or, take, drop}
 use Rattle.std.proofs.Common.{arith, add-zero, ap, ◌∙◌, length-drop, get_or-drop, drop-drop, length-take-le}
 use Rattle.std.proofs.Math.Nat.{sub-zero}
 use Rattle.std.proofs.Math.Path.{refl, sym}
@@ -10,18 +10,19 @@ use borrow.Author.Tests.{le-leb, lt-leb, lt-ltb, le-ltb, ltb-true, eq-eqb, ne_eq
 use Rattle.octets.specs.Word.{le_of, word_of, length-le_of}
 use Rattle.answers.specs.Numbers.{out_of_turn, breaks_rule, breaks_form, most_octets, most_records}
 use Rattle.answers.specs.declared.Refusal.{Refusal}
-use Rattle.answers.specs.declared.Verdict.{Verdict}
-use Rattle.answers.specs.declared.Verdict.TheVariants.{Clear as clear, Refused}
-use Rattle.answers.specs.Verdict.{refused, ◌then◌, need, no-clear, apart, unmet, then-assoc}
-use Rattle.answers.specs.declared.Walk.{Walk}
-use Rattle.answers.specs.declared.Walk.TheVariants.{Ends, Broken}
+use Rattle.answers.specs.Verdict.{Answer, verdict_of, same-value, no-value, refusal}
+use Rattle.answers.specs.Verdict.{Verdict}
+use Rattle.answers.specs.Verdict.{clear, Refused}
+use Rattle.answers.specs.Verdict.{refused, ◌then◌, need, apart, unmet, then-assoc}
+use Rattle.answers.specs.Walk.{Walk}
+use Rattle.answers.specs.Walk.{Ends, Broken}
 use Rattle.presence.specs.Presence.{room}
 use Rattle.value.specs.Types.{form_at}
 use Rattle.value.specs.Value.{value_of}
 use Rattle.table.specs.Table.{Column}
 use Rattle.table.specs.Columns.{tags_of, columns_in}
-use Rattle.table.specs.declared.Found.{Found}
-use Rattle.table.specs.declared.Found.TheVariants.{At, Nothing}
+use Rattle.table.specs.Found.{Found}
+use Rattle.table.specs.Found.{At, Nothing}
 use Rattle.table.specs.Found.{is_found, column_of}
 use Rattle.entry.specs.Record.{Slot, present_in, no_slot}
 use Rattle.entry.specs.Slots.{key_bit, slot, slots_from, slots-many, slots_next}
@@ -31,7 +32,6 @@ use Rattle.book.specs.JudgeCases.{slots-head, slots-row}
 use Rattle.book.specs.Good.{GoodIs, good-is, refused-by, good-keeps, tags-in, forms-in, bits_in, reach-tags}
 use Rattle.book.specs.Good.{reach-forms, reach-bits}
 use Rattle.book.specs.declared.Judgement.{Judgement}
-use Rattle.book.specs.declared.Judged.TheVariants as judged
 use Rattle.lookup.specs.Places.{walk_behind, walk-behind, place_in}
 use Rattle.lookup.specs.Cases.{walk-place}
 use Rattle.lookup.specs.Look.{column_in}
@@ -49,20 +49,13 @@ use Rattle.correcting.specs.Correct.{book_at, room_for, fits, losing, column_for
 use Rattle.correcting.specs.Correct.{set_at as set_verdict, set_book, set_answer, set_octets}
 use Rattle.correcting.specs.Find.{cell_at, cell_free, Lies, cell_lies}
 use Rattle.correcting.specs.declared.Plan.{Plan}
-use Rattle.answers.specs.declared.Made.TheVariants as made
 use Rattle.editing.specs.Entry.{mark-length}
 
 -- ---- what is decided before anything is written
 
-abbrev pub no_cell : Cell
-no_cell = record { place = 0; columns = 0; column = 0; start = 0; long = 0 }
-
-abbrev pub no_plan : Verdict → Plan
-no_plan v = record { verdict = v; cell = no_cell; count = 0 }
-
-abbrev pub on_plan : Verdict → Plan → Plan
-on_plan clear p = p
-on_plan (Refused r) p = no_plan (Refused r)
+abbrev pub on_plan : Verdict → Answer Plan → Answer Plan
+on_plan (Ok _) p = p
+on_plan (Refused r) p = Err r
 
 -- ---- judge_entry
 
@@ -157,8 +150,8 @@ module _ (ss : List Slot) (c at : ℕ) (b : List ℕ) (st : Stands (length ss) a
 unfoldable pub entry_in : List Slot → ℕ → ℕ → Option (List ℕ) → List ℕ → ℕ → Verdict
 entry_in ss c at e b room = entry_of (get_or ss c no_slot) e then room_in (12 + (length (set_at ss c at e b) - 12)) room
 
-unfoldable pub plan_column : List Slot → ℕ → ℕ → Option (List ℕ) → List ℕ → ℕ → ℕ → Plan
-plan_column ss c at e b room count = on_plan (entry_in ss c at e b room) (record { verdict = clear; cell = cell_at ss c at b; count = count })
+unfoldable pub plan_column : List Slot → ℕ → ℕ → Option (List ℕ) → List ℕ → ℕ → ℕ → Answer Plan
+plan_column ss c at e b room count = on_plan (entry_in ss c at e b room) (Ok (record { cell = cell_at ss c at b; count = count }))
 
 slot_at : (forms flags : List ℕ) (c : ℕ) → c < length forms → get_or (slots_from forms flags) c no_slot ≡ slot (get_or forms c 0) (get_or flags c 0)
 slot_at forms flags c h =
@@ -175,17 +168,17 @@ module _ (forms flags b v : List ℕ) (c at room count : ℕ) (t : Bool) (h : c 
   stands : Stands (length (slots_from forms flags)) at b
   stands = rw (slots-many forms flags) st
 
-  pub column-refused : (r : Refusal) (p : Plan) → j ≡ Refused r → p ≡ no_plan j → p ≡ plan_column (slots_from forms flags) c at (offered t v) b room count
+  pub column-refused : (r : Refusal) → j ≡ Refused r → Err r ≡ plan_column (slots_from forms flags) c at (offered t v) b room count
   unfolding plan_column entry_in
-  column-refused r p z q = rw (entry-was, z) (rw z at q)
+  column-refused r z = rw (entry-was, z)
 
   module _ (z : j ≡ clear) where
-    pub column-long : (x : Verdict) (p : Plan) → most_octets < length v → x ≡ refused breaks_rule 0 → p ≡ no_plan x → p ≡ plan_column (slots_from forms flags) c at (offered t v) b room count
+    pub column-long : (p : Answer Plan) → most_octets < length v → p ≡ Err (refusal breaks_rule 0) → p ≡ plan_column (slots_from forms flags) c at (offered t v) b room count
     unfolding plan_column entry_in room_in
-    column-long x p l y q =
+    column-long p l q =
         let s = set-size ss c at b stands (offered t v) v w in
         let m = lt-leb (length b - (cell_at ss c at b).long + length v) most_octets (omega arith) in
-        rw (entry-was, z, s, m) (rw y at q)
+        rw (entry-was, z, s, m) q
 
     module _ (k : Cell) (ke : k ≡ cell_at (slots_from forms []) c at b) (x : Verdict) (xe : x ≡ room_in (length b - k.long + length v) room) where
       cell-was : cell_at (slots_from forms flags) c at b ≡ k
@@ -194,11 +187,12 @@ module _ (forms flags b v : List ℕ) (c at room count : ℕ) (t : Bool) (h : c 
       room_was : room_in (12 + (length (set_at (slots_from forms flags) c at (offered t v) b) - 12)) room ≡ x
       room_was = ap (λ (n : ℕ). room_in n room) (set-size ss c at b stands (offered t v) v w ∙ ap (λ (k : Cell). length b - k.long + length v) cell-was) ∙ sym xe
 
-      pub column-room : (r : Refusal) (p : Plan) → x ≡ Refused r → p ≡ no_plan x → p ≡ plan_column (slots_from forms flags) c at (offered t v) b room count
+      pub column-room : (r : Refusal) → x ≡ Refused r → Err r ≡ plan_column (slots_from forms flags) c at (offered t v) b room count
       unfolding plan_column entry_in
-      column-room r p y q = rw (entry-was, z, room_was, y) (rw y at q)
+      column-room r y = rw (entry-was, z, room_was, y)
 
-      pub column-done : x ≡ clear → ◌≡◌ {A = Plan} (record { verdict = x; cell = k; count = count }) (plan_column (slots_from forms flags) c at (offered t v) b room count)
+      pub column-done : x ≡ clear
+          → Ok (record { cell = k; count = count }) ≡ plan_column (slots_from forms flags) c at (offered t v) b room count
       unfolding plan_column entry_in
       column-done y = rw (entry-was, z, room_was, y, cell-was)
 
@@ -213,32 +207,36 @@ cell_in_lem forms b c at k st e =
 
 -- ---- plan_in
 
-unfoldable pub plan_in : List ℕ → List Slot → ℕ → ℕ → Option (List ℕ) → List ℕ → ℕ → ℕ → Plan
+unfoldable pub plan_in : List ℕ → List Slot → ℕ → ℕ → Option (List ℕ) → List ℕ → ℕ → ℕ → Answer Plan
 plan_in tags ss at t e b room count = on_plan (need (is_found (column_in t tags)) out_of_turn 0) (plan_column ss (column_of (column_in t tags)) at e b room count)
 
-module _ (tags forms flags b v : List ℕ) (n keys at tag room count : ℕ) (t : Bool) (f : Found) (fe : f ≡ column_in tag (take (n - 0) tags)) where
+module _ (tags forms flags b v : List ℕ) (n keys at tag room count : ℕ) (t : Bool) (ts : List ℕ) (te : ts ≡ take n tags)
+    (f : Found) (fe : f ≡ column_in tag ts) where
   found-is : column_in tag (take n tags) ≡ f
-  found-is = rw (sub-zero n) at (sym fe)
+  found-is = rw te at (sym fe)
 
-  pub in-none : (x : Verdict) (p : Plan) → f ≡ Nothing → x ≡ refused out_of_turn 0 → p ≡ no_plan x
+  pub in-none : (p : Answer Plan) → f ≡ Nothing → p ≡ Err (refusal out_of_turn 0)
       → p ≡ plan_in (take n tags) (slots_from (take n forms) (take keys flags)) at tag (offered t v) b room count
   unfolding plan_in
-  in-none x p z y q = rw (found-is, z) (rw y at q)
+  in-none p z q = rw (found-is, z) q
 
-  pub in-column : (c : ℕ) (p : Plan) → f ≡ At c → p ≡ plan_column (slots_from (take (n - 0) forms) (take (keys - 0) flags)) c at (offered t v) b room count
+  pub in-column : (c : ℕ) (p : Answer Plan) (fs : List ℕ) → f ≡ At c → fs ≡ take n forms
+      → p ≡ plan_column (slots_from fs (take (keys - 0) flags)) c at (offered t v) b room count
       → p ≡ plan_in (take n tags) (slots_from (take n forms) (take keys flags)) at tag (offered t v) b room count
   unfolding plan_in
-  in-column c p z q = rw (found-is, z) (rw (sub-zero n, sub-zero keys) at q)
+  in-column c p fs z y q = rw (found-is, z) (rw (y, sub-zero keys) at q)
 
-pub column-there : (tags forms : List ℕ) (n tag c : ℕ) (f : Found) → f ≡ column_in tag (take (n - 0) tags) → f ≡ At c → n ≤ length tags → n ≤ length forms → c < length (take (n - 0) forms)
-column-there tags forms n tag c f e z h k =
-    let l = column-below tag (take n tags) c (rw (sub-zero n) at (sym e) ∙ z) in
-    let a = length-take-le n tags h in
-    let d = length-take-le n forms k in
-    rw (sub-zero n) (omega arith)
+pub column-there : (tags forms : List ℕ) (n tag c : ℕ) (ts fs : List ℕ) → ts ≡ take n tags → fs ≡ take n forms
+    → (f : Found) → f ≡ column_in tag ts → f ≡ At c → n ≤ length tags → n ≤ length forms → c < length fs
+column-there tags forms n tag c ts fs te fe f e z h k =
+    let l = column-below tag ts c (sym e ∙ z) in
+    let a : length ts ≡ n = ap length te ∙ length-take-le n tags h in
+    let d : length fs ≡ n = ap length fe ∙ length-take-le n forms k in
+    omega arith
 
-pub stands-there : (forms b : List ℕ) (n at : ℕ) → n ≤ length forms → Stands n at b → Stands (length (take (n - 0) forms)) at b
-stands-there forms b n at k st = rw (sub-zero n, length-take-le n forms k) st
+pub stands-there : (forms b : List ℕ) (n at : ℕ) (fs : List ℕ) → fs ≡ take n forms → n ≤ length forms → Stands n at b
+    → Stands (length fs) at b
+stands-there forms b n at fs e k st = rw (e, length-take-le n forms k) st
 
 -- ---- plan
 
@@ -246,67 +244,68 @@ abbrev pub tags_for : List ℕ → Which → List ℕ
 tags_for b Header = tags_of (heads_in (drop 12 b))
 tags_for b (Number k) = tags_of (cols_in (drop 12 b))
 
-unfoldable pub plan_of : List ℕ → ℕ → Which → ℕ → Option (List ℕ) → Plan
+unfoldable pub plan_of : List ℕ → ℕ → Which → ℕ → Option (List ℕ) → Answer Plan
 plan_of b room which t e =
     on_plan (judge b then need (has_record b which) out_of_turn 0) (plan_in (tags_for b which) (slots_for b which) (start_for b which) t e b room (count_in b))
 
-module _ (b v : List ℕ) (room tag : ℕ) (t : Bool) (j : Judgement) (je : j ≡ judged_of b) where
-  pub plan-refused : (which : Which) (r : Refusal) (p : Plan) → j.judged ≡ judged.Refused r → p ≡ no_plan (Refused r) → p ≡ plan_of b room which tag (offered t v)
+module _ (b v : List ℕ) (room tag : ℕ) (t : Bool) (u : Answer Judgement) (je : u ≡ judged_of b) where
+  pub plan-refused : (which : Which) (r : Refusal) → u ≡ Err r → Err r ≡ plan_of b room which tag (offered t v)
   unfolding plan_of
-  plan-refused which r p z q = rw (refused-by b j je r z) q
+  plan-refused which r z = rw (refused-by b u je r z)
 
-  module _ (l c h f : ℕ) (q : j.judged ≡ judged.Good l c h f) where
-    good : GoodIs b j c h f
-    good = good-is b j l c h f je q
+  module _ (j : Judgement) (q : u ≡ Ok j) where
+    good : GoodIs b j
+    good = good-is b u j je q
 
-    pub plan-header : (which : Which) (p : Plan) → which ≡ Header
-        → p ≡ plan_in (take j.header.count j.header.tags) (slots_from (take j.header.count j.header.forms) (take 0 j.header.flags)) h tag (offered t v) b room c
+    pub plan-header : (which : Which) (p : Answer Plan) → which ≡ Header
+        → p ≡ plan_in (take j.header.count j.header.tags) (slots_from (take j.header.count j.header.forms) (take 0 j.header.flags)) j.head tag (offered t v) b room j.count
         → p ≡ plan_of b room which tag (offered t v)
     unfolding plan_of
     plan-header which p w z =
         let hs : List Column = heads_in (drop 12 b) in
         rw (w, good.clears) (rw (good.heads, good.header, good.count, tags-in hs, forms-in hs, slots-head hs) at z)
 
-    pub plan-none : (which : Which) (k : ℕ) (x : Verdict) (p : Plan) → which ≡ Number k → c ≤ k → x ≡ refused out_of_turn 0 → p ≡ no_plan x → p ≡ plan_of b room which tag (offered t v)
+    pub plan-none : (which : Which) (k : ℕ) (p : Answer Plan) → which ≡ Number k → j.count ≤ k
+        → p ≡ Err (refusal out_of_turn 0) → p ≡ plan_of b room which tag (offered t v)
     unfolding plan_of
-    plan-none which k x p w g y z =
-        let n : count_in b ≡ c = sym good.count in
-        rw (w, good.clears, n, le-ltb k c g) (rw y at z)
+    plan-none which k p w g z =
+        let n : count_in b ≡ j.count = sym good.count in
+        rw (w, good.clears, n, le-ltb k j.count g) z
 
-    pub number-walks : (f < 2 ^ 32) × (c ≤ most_records)
+    pub number-walks : (j.first < 2 ^ 32) × (j.count ≤ most_records)
     number-walks =
         let k = good-keeps b good.clears in
         let g = good.first in
         let n = good.count in
         (omega arith, omega arith)
 
-    pub plan-number : (which : Which) (k at : ℕ) (p : Plan) → which ≡ Number k → k < c → at ≡ walk_behind k f b
-        → p ≡ plan_in (take j.address.count j.address.tags) (slots_from (take j.address.count j.address.forms) (take j.address.count j.address.flags)) at tag (offered t v) b room c
+    pub plan-number : (which : Which) (k at : ℕ) (p : Answer Plan) → which ≡ Number k → k < j.count → at ≡ walk_behind k j.first b
+        → p ≡ plan_in (take j.address.count j.address.tags) (slots_from (take j.address.count j.address.forms) (take j.address.count j.address.flags)) at tag (offered t v) b room j.count
         → p ≡ plan_of b room which tag (offered t v)
     unfolding plan_of
     plan-number which k at p w g y z =
         let cs : List Column = cols_in (drop 12 b) in
-        let n : count_in b ≡ c = sym good.count in
+        let n : count_in b ≡ j.count = sym good.count in
         let w₂ = number-walks in
-        let a : at ≡ place_in b k = y ∙ walk-behind k f b w₂.0 (omega (arith, w₂.1)) ∙ walk-place b k f good.first in
-        rw (w, good.clears, n, lt-ltb k c g) (rw (good.cols, a, tags-in cs, forms-in cs, bits_in cs, slots-row cs) at z)
+        let a : at ≡ place_in b k = y ∙ walk-behind k j.first b w₂.0 (omega (arith, w₂.1)) ∙ walk-place b k j.first good.first in
+        rw (w, good.clears, n, lt-ltb k j.count g) (rw (good.cols, a, tags-in cs, forms-in cs, bits_in cs, slots-row cs) at z)
 
     columns-many : (cs : List Column) → (columns_in cs).count ≡ length cs
     unfolding columns_in
     columns-many cs = refl
 
-    pub header-reach : (j.header.count ≤ length j.header.tags) × (j.header.count ≤ length j.header.forms) × (0 ≤ length j.header.flags) × Stands j.header.count h b × (length b ≤ most_octets)
+    pub header-reach : (j.header.count ≤ length j.header.tags) × (j.header.count ≤ length j.header.forms) × (0 ≤ length j.header.flags) × Stands j.header.count j.head b × (length b ≤ most_octets)
     header-reach =
         let hs : List Column = heads_in (drop 12 b) in
         let s : Stands (length hs) (records_place (drop 12 b)) b = rw (slots-long false hs) at (header-stands b good.clears) in
         (rw good.heads (reach-tags hs), rw good.heads (reach-forms hs), omega arith, rw (good.heads, columns-many hs, good.header) s, (good-keeps b good.clears).0)
 
-    pub number-reach : (k at : ℕ) → k < c → at ≡ walk_behind k f b
+    pub number-reach : (k at : ℕ) → k < j.count → at ≡ walk_behind k j.first b
         → (j.address.count ≤ length j.address.tags) × (j.address.count ≤ length j.address.forms) × (j.address.count ≤ length j.address.flags) × Stands j.address.count at b × (length b ≤ most_octets)
     number-reach k at g y =
         let cs : List Column = cols_in (drop 12 b) in
         let w₂ = number-walks in
-        let a : at ≡ place_in b k = y ∙ walk-behind k f b w₂.0 (omega (arith, w₂.1)) ∙ walk-place b k f good.first in
+        let a : at ≡ place_in b k = y ∙ walk-behind k j.first b w₂.0 (omega (arith, w₂.1)) ∙ walk-place b k j.first good.first in
         let n = good.count in
         let s : Stands (length cs) (place_in b k) b =
         rw (slots-long true cs) at (number-stands b good.clears k (omega arith)) in (
@@ -319,21 +318,22 @@ module _ (b v : List ℕ) (room tag : ℕ) (t : Bool) (j : Judgement) (je : j �
 
 -- ---- the verdict of a plan is that of the call
 
-four : (u v w x : Verdict) (p : Plan) → p.verdict ≡ clear → (on_plan (u then v) (on_plan w (on_plan x p))).verdict ≡ (u then (v then (w then x)))
+four : (u v w x : Verdict) (p : Answer Plan) → verdict_of p ≡ clear
+    → verdict_of (on_plan (u then v) (on_plan w (on_plan x p))) ≡ (u then (v then (w then x)))
 four (Refused r) v w x p e = refl
-four clear (Refused r) w x p e = refl
-four clear clear (Refused r) x p e = refl
-four clear clear clear (Refused r) p e = refl
-four clear clear clear clear p e = e
+four (Ok _) (Refused r) w x p e = refl
+four (Ok _) (Ok _) (Refused r) x p e = refl
+four (Ok _) (Ok _) (Ok _) (Refused r) p e = refl
+four (Ok _) (Ok _) (Ok _) (Ok _) p e = e
 
 abbrev column_here : List ℕ → Which → ℕ → ℕ
 column_here b which t = column_of (column_in t (tags_for b which))
 
-plan-verdict : (b : List ℕ) (room : ℕ) (which : Which) (t : ℕ) (e : Option (List ℕ)) → (plan_of b room which t e).verdict
+plan-verdict : (b : List ℕ) (room : ℕ) (which : Which) (t : ℕ) (e : Option (List ℕ)) → verdict_of (plan_of b room which t e)
     ≡ (judge b then (need (has_record b which) out_of_turn 0 then (need (is_found (column_in t (tags_for b which))) out_of_turn 0 then entry_in (slots_for b which) (column_here b which t) (start_for b which) e b room)))
 unfolding plan_of plan_in plan_column
 plan-verdict b room which t e = four (judge b) (need (has_record b which) out_of_turn 0) (need (is_found (column_in t (tags_for b which))) out_of_turn 0)
-    (entry_in (slots_for b which) (column_here b which t) (start_for b which) e b room) (record { verdict = clear; cell = cell_at (slots_for b which) (column_here b which t) (start_for b which) b; count = count_in b }) refl
+    (entry_in (slots_for b which) (column_here b which t) (start_for b which) e b room) (Ok (record { cell = cell_at (slots_for b which) (column_here b which t) (start_for b which) b; count = count_in b })) refl
 
 column-for : (b : List ℕ) (which : Which) (t : ℕ) → column_for b which t ≡ column_in t (tags_for b which)
 column-for b Header t = refl
@@ -348,16 +348,16 @@ unfolding entry_at entry_in entry_of room_for room_in
 entry-at d b which c e =
     rw (set_long b which c e) (then-assoc (need (fits e (slot_for b which c)) breaks_form 0) (need (not (losing e (slot_for b which c))) breaks_rule 0) _)
 
-set-verdict : (d : List ℕ) (len : ℕ) (which : Which) (t : ℕ) (e : Option (List ℕ)) → len ≤ length d → set_verdict d len which t e ≡ (plan_of (take len d) (length d) which t e).verdict
+set-verdict : (d : List ℕ) (len : ℕ) (which : Which) (t : ℕ) (e : Option (List ℕ)) → len ≤ length d → set_verdict d len which t e ≡ verdict_of (plan_of (take len d) (length d) which t e)
 unfolding set_verdict book_at
 set-verdict d len which t e h =
     rw (le-leb len (length d) h, column-for (take len d) which t, entry-at d (take len d) which (column_here (take len d) which t) e) (sym (plan-verdict (take len d) (length d) which t e))
 
 -- ---- what a plan that is clear has found
 
-on-clear : (v : Verdict) (p q : Plan) → q ≡ on_plan v p → q.verdict ≡ clear → (v ≡ clear) × (q ≡ p)
-on-clear clear p q e z = (refl, e)
-on-clear (Refused r) p q e z = no-clear (sym (ap (λ (x : Plan). x.verdict) e) ∙ z)
+on-clear : (v : Verdict) (p q : Answer Plan) (x : Plan) → q ≡ on_plan v p → q ≡ Ok x → (v ≡ clear) × (q ≡ p)
+on-clear (Ok _) p q x e z = (refl, e)
+on-clear (Refused r) p q x e z = no-value (sym e ∙ z)
 
 stands-for : (b : List ℕ) (which : Which) → judge b ≡ clear → has_record b which ≡ true → Stands (length (slots_for b which)) (start_for b which) b
 stands-for b Header e h = header-stands b e
@@ -370,26 +370,28 @@ record Finding (b : List ℕ) (room : ℕ) (which : Which) (t : ℕ) (e : Option
   pub cell : q.cell ≡ cell_at (slots_for b which) (column_here b which t) (start_for b which) b
   pub count : q.count ≡ count_in b
 
-plan-found : (b : List ℕ) (room : ℕ) (which : Which) (t : ℕ) (e : Option (List ℕ)) (q : Plan) → q ≡ plan_of b room which t e → q.verdict ≡ clear → Finding b room which t e q
+plan-found : (b : List ℕ) (room : ℕ) (which : Which) (t : ℕ) (e : Option (List ℕ)) (u : Answer Plan) (q : Plan)
+    → u ≡ plan_of b room which t e → u ≡ Ok q → Finding b room which t e q
 unfolding plan_of plan_in plan_column entry_in
-plan-found b room which t e q p z =
-    let c₁ = on-clear (judge b then need (has_record b which) out_of_turn 0) _ q p z in
-    let c₂ = on-clear (need (is_found (column_in t (tags_for b which))) out_of_turn 0) _ q c₁.1 z in
-    let c₃ = on-clear _ _ q c₂.1 z in
+plan-found b room which t e u q p z =
+    let c₁ = on-clear (judge b then need (has_record b which) out_of_turn 0) _ u q p z in
+    let c₂ = on-clear (need (is_found (column_in t (tags_for b which))) out_of_turn 0) _ u q c₁.1 z in
+    let c₃ = on-clear _ _ u q c₂.1 z in
+    let same = same-value (sym z ∙ c₃.1) in
     let a = apart (judge b) _ c₁.0 in
     let f = apart (entry_of (get_or (slots_for b which) (column_here b which t) no_slot) e) _ c₃.0 in
     record {
       stands = stands-for b which a.0 (unmet _ out_of_turn 0 a.1);
       fits = f.1;
-      cell = ap (λ (x : Plan). x.cell) c₃.1;
-      count = ap (λ (x : Plan). x.count) c₃.1;
+      cell = ap (λ (x : Plan). x.cell) same;
+      count = ap (λ (x : Plan). x.count) same;
     }
 
 -- ---- correct
 
 module _ (d v : List ℕ) (len tag : ℕ) (which : Which) (t : Bool) where
   pub set-short : length d < len → (r : Refusal) → r ≡ record { number = out_of_turn; place = 0 }
-      → made.Refused r ≡ set_answer d len which tag (offered t v)
+      → Err r ≡ set_answer d len which tag (offered t v)
   unfolding set_answer set_verdict book_at
   set-short h r q = rw (lt-leb len (length d) h, q)
 
@@ -397,27 +399,28 @@ module _ (d v : List ℕ) (len tag : ℕ) (which : Which) (t : Bool) where
   unfolding set_octets set_verdict book_at
   set-kept h = rw (lt-leb len (length d) h)
 
-  module _ (h : len ≤ length d) (p : Plan) (pe : p ≡ plan_of (take (len - 0) d) (length d) which tag (offered t v)) where
-    plan-is : p ≡ plan_of (take len d) (length d) which tag (offered t v)
+  module _ (h : len ≤ length d) (u : Answer Plan)
+      (pe : u ≡ plan_of (take (len - 0) d) (length d) which tag (offered t v)) where
+    plan-is : u ≡ plan_of (take len d) (length d) which tag (offered t v)
     plan-is = rw (sub-zero len) at pe
 
-    verdict-is : set_verdict d len which tag (offered t v) ≡ p.verdict
-    verdict-is = set-verdict d len which tag (offered t v) h ∙ ap (λ (x : Plan). x.verdict) (sym plan-is)
+    verdict-is : set_verdict d len which tag (offered t v) ≡ verdict_of u
+    verdict-is = set-verdict d len which tag (offered t v) h ∙ ap (λ (x : Answer Plan). verdict_of x) (sym plan-is)
 
-    pub set-refused : (r : Refusal) → p.verdict ≡ Refused r → made.Refused r ≡ set_answer d len which tag (offered t v)
+    pub set-refused : (r : Refusal) → u ≡ Err r → Err r ≡ set_answer d len which tag (offered t v)
     unfolding set_answer
     set-refused r z = rw (verdict-is, z)
 
-    pub set-left : (r : Refusal) → p.verdict ≡ Refused r → d ≡ set_octets d len which tag (offered t v)
+    pub set-left : (r : Refusal) → u ≡ Err r → d ≡ set_octets d len which tag (offered t v)
     unfolding set_octets
     set-left r z = rw (verdict-is, z)
 
-    module _ (z : p.verdict ≡ clear) (w : v ≡ entry_octets (offered t v)) where
+    module _ (p : Plan) (z : u ≡ Ok p) (w : v ≡ entry_octets (offered t v)) where
       abbrev b : List ℕ
       b = take len d
 
       found : Finding (take len d) (length d) which tag (offered t v) p
-      found = plan-found b (length d) which tag (offered t v) p plan-is z
+      found = plan-found b (length d) which tag (offered t v) u p plan-is z
 
       book-long : length (take len d) ≡ len
       book-long = length-take-le len d h
@@ -447,7 +450,7 @@ module _ (d v : List ℕ) (len tag : ℕ) (which : Which) (t : Bool) where
               let f : word_of 4 (drop (start_for b which) d) ≡ word_of 4 (drop (start_for b which) b) = word-taken d len (start_for b which) (omega arith) h in
               rw (l.place, l.columns) (o, x, omega arith, h, n, rw f (omega arith), w)
 
-      pub set-done : made.Done (len - p.cell.long + length v) ≡ set_answer d len which tag (offered t v)
+      pub set-done : Ok (len - p.cell.long + length v) ≡ set_answer d len which tag (offered t v)
       unfolding set_answer set_book
       set-done = rw (verdict-is, z, column-for (take len d) which tag, set_long (take len d) which (column_here (take len d) which tag) (offered t v), size_is)
 

@@ -4,14 +4,14 @@ use Rattle.std.specs.Prelude.{ℕ, Bool, true, false, not, List, [], eqb, ltb, l
 use Rattle.std.proofs.Math.Option.{Option, none, some}
 use Rattle.octets.specs.Word.{word_of}
 use Rattle.answers.specs.Numbers.{out_of_turn, breaks_rule, no_room, breaks_form, most_octets, most_records}
-use Rattle.answers.specs.declared.Made.{Made}
-use Rattle.answers.specs.declared.Verdict.{Verdict}
+use Rattle.answers.specs.Made.{Made}
+use Rattle.answers.specs.Verdict.{Verdict}
 use Rattle.answers.specs.Made.{answered}
 use Rattle.answers.specs.Verdict.{◌then◌, need, kept}
 use Rattle.answers.specs.Walk.{ends_at}
 use Rattle.value.specs.Value.{value_of}
 use Rattle.table.specs.Columns.{tags_of}
-use Rattle.table.specs.declared.Found.{Found}
+use Rattle.table.specs.Found.{Found}
 use Rattle.table.specs.Found.{is_found, column_of}
 use Rattle.entry.specs.Record.{Slot, is_clear, record_at, keys_at, freed, present_in, no_slot}
 use Rattle.book.specs.Book.{row_slots, heads_in, cols_in, count_in, judge}

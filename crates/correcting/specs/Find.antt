@@ -9,8 +9,9 @@ use Rattle.std.proofs.Math.ListN.{length, take, drop, length-drop}
 use Rattle.std.specs.Int.{w64}
 use Rattle.octets.specs.Octets.{rest_of}
 use Rattle.octets.specs.Word.{word_of}
-use Rattle.answers.specs.declared.Walk.{Walk}
-use Rattle.answers.specs.declared.Walk.TheVariants.{Ends, Broken}
+use Rattle.std.specs.Result.{result_unwrap_or}
+use Rattle.answers.specs.Walk.{Walk}
+use Rattle.answers.specs.Walk.{Ends, Broken}
 use Rattle.presence.specs.Presence.{room, is_set}
 use Rattle.value.specs.Types.{form_at}
 use Rattle.value.specs.Value.{value_of}
@@ -88,13 +89,15 @@ module _ (forms p s : List ℕ) (c at i j : ℕ) (inv : spot_from (drop j (slots
         let f : step_of p c (form_at (get_or forms c 0)) (drop i s) ≡ r = rw (rest_of s i) at (sym e) in
         rw (m, n, slots_next forms [] c k, spot-last _ _ c p (at + i) (drop i s), f) at inv
 
-    pub find-lost : (q : ℕ) → r ≡ Broken q → ◌≡◌ {A = Stretch} (record { start = at + i; long = 0 }) (as_stretch (spot_from (slots_from forms []) c 0 p at s))
+    pub find-last : (w : ℕ) → w ≡ result_unwrap_or r 0
+        → ◌≡◌ {A = Stretch} (record { start = at + i; long = w }) (as_stretch (spot_from (slots_from forms []) c 0 p at s))
     unfolding as_stretch
-    find-lost q z = ap as_stretch (rw z at last_step)
-
-    pub find-found : (w : ℕ) → r ≡ Ends w → ◌≡◌ {A = Stretch} (record { start = at + i; long = w }) (as_stretch (spot_from (slots_from forms []) c 0 p at s))
-    unfolding as_stretch
-    find-found w z = ap as_stretch (rw z at last_step)
+    find-last w z = by r refl
+      where
+        by : (t : Walk) → r ≡ t
+            → ◌≡◌ {A = Stretch} (record { start = at + i; long = w }) (as_stretch (spot_from (slots_from forms []) c 0 p at s))
+        by (Ends v) q = rw (z, q) (ap as_stretch (rw q at last_step))
+        by (Broken v) q = rw (z, q) (ap as_stretch (rw q at last_step))
 
 -- ---- find_cell
 

@@ -11,13 +11,12 @@ ghost use Rattle.editing.specs.InPlace.{offered};
 ghost use Rattle.editing.specs.Stands.{Stands};
 ghost use Rattle.correcting.specs.Correct.{set_answer, set_octets};
 ghost use Rattle.correcting.specs.Find.{as_stretch, cell_at};
-ghost use Rattle.correcting.specs.Cases.{no_plan, entry_of, plan_column, plan_in, plan_of};
+ghost use Rattle.correcting.specs.Cases.{entry_of, plan_column, plan_in, plan_of};
 
-use answers::{Made, Refusal, Verdict, Walk, refuse};
-use book::Judged;
+use answers::{Answer, Verdict, refuse};
 use editing::Cell;
 use lookup::Which;
-use table::{Columns, Found};
+use table::Columns;
 
 // Where a value stands or would stand, and how long it is.
 #[derive(Clone, Copy)]
@@ -31,27 +30,19 @@ fn find_value(p: &[u8], forms: &[u8], c: usize, s: &[u8], at: usize) -> Stretch
     requires { (c < length forms.now) × (at + length s.now < 2 ^ 64) }
     ensures { result ≡ as_stretch (spot_from (slots_from forms.now []) c 0 p.now at s.now) }
 {
-    let mut j = 0;
     let mut i = 0;
-    while j < c {
-        let Walk::Ends(w) = entry::walk_column(p, j, forms[j], &s[i..]) else {
+    for j in 0..c {
+        let Ok(w) = entry::walk_column(p, j, forms[j], &s[i..]) else {
             return Stretch {
                 start: at + i,
                 long: 0,
             };
         };
         i += w;
-        j += 1;
     }
-    let Walk::Ends(w) = entry::walk_column(p, c, forms[c], &s[i..]) else {
-        return Stretch {
-            start: at + i,
-            long: 0,
-        };
-    };
     Stretch {
         start: at + i,
-        long: w,
+        long: entry::walk_column(p, c, forms[c], &s[i..]).unwrap_or(0),
     }
 }
 
@@ -73,29 +64,11 @@ fn find_cell(book: &[u8], at: usize, forms: &[u8], c: usize) -> Cell
     }
 }
 
-// What is decided before anything is written: the verdict, the entry and the book's count. All is 0 behind a refusal.
+// What is decided before anything is written: the entry, and the book's count.
 #[derive(Clone, Copy)]
 struct Plan {
-    verdict: Verdict,
     cell: Cell,
     count: usize,
-}
-
-fn no_plan(verdict: Verdict) -> Plan
-    ensures { result ≡ no_plan verdict }
-{
-    let cell = Cell {
-        place: 0,
-        columns: 0,
-        column: 0,
-        start: 0,
-        long: 0,
-    };
-    Plan {
-        verdict,
-        cell,
-        count: 0,
-    }
 }
 
 // What is offered for a column: one value of its form, or nothing where it is no key.
@@ -103,18 +76,18 @@ fn judge_entry(form: u8, flags: u32, there: bool, value: &[u8]) -> Verdict
     ensures { result ≡ entry_of (slot form flags) (offered there value.now) }
 {
     if there {
-        let Walk::Ends(w) = value::walk_value(form, value) else {
+        let Ok(w) = value::walk_value(form, value) else {
             return refuse(answers::BREAKS_FORM, 0);
         };
         if w == value.len() {
-            return Verdict::Clear;
+            return Ok(());
         }
         return refuse(answers::BREAKS_FORM, 0);
     }
     if entry::is_key(flags) {
         return refuse(answers::BREAKS_RULE, 0);
     }
-    Verdict::Clear
+    Ok(())
 }
 
 // Column c of the record at `at`, in a buffer of `room` octets.
@@ -128,28 +101,18 @@ fn plan_column(
     there: bool,
     value: &[u8],
     count: usize,
-) -> Plan
+) -> Answer<Plan>
     requires { (c < length forms.now) × Stands (length forms.now) at book.now
         × (value.now ≡ entry_octets (offered there value.now)) × (length book.now ≤ most_octets) }
     ensures { result ≡ plan_column (slots_from forms.now flags.now) c at (offered there value.now) book.now room count }
 {
-    let v = judge_entry(forms[c], entry::flags_at(flags, c), there, value);
-    let Verdict::Clear = v else {
-        return no_plan(v);
-    };
+    judge_entry(forms[c], entry::flags_at(flags, c), there, value)?;
     if answers::MOST_OCTETS < value.len() {
-        return no_plan(refuse(answers::BREAKS_RULE, 0));
+        return refuse(answers::BREAKS_RULE, 0);
     }
     let cell = find_cell(book, at, forms, c);
-    let verdict = editing::judge_room(book.len() - cell.long + value.len(), room);
-    let Verdict::Clear = verdict else {
-        return no_plan(verdict);
-    };
-    Plan {
-        verdict,
-        cell,
-        count,
-    }
+    editing::judge_room(book.len() - cell.long + value.len(), room)?;
+    Ok(Plan { cell, count })
 }
 
 // The column with a whole tag in the record at `at`, by that record's columns, of which the first `keys` may be keys.
@@ -163,103 +126,76 @@ fn plan_in(
     there: bool,
     value: &[u8],
     count: usize,
-) -> Plan
+) -> Answer<Plan>
     requires { (columns.count ≤ length columns.tags) × (columns.count ≤ length columns.forms)
         × (keys ≤ length columns.flags) × Stands columns.count at book.now × (length book.now ≤ most_octets)
         × (value.now ≡ entry_octets (offered there value.now)) }
     ensures { result ≡ plan_in (take columns.count columns.tags) (slots_from (take columns.count columns.forms) (take keys columns.flags)) at tag (offered there value.now) book.now room count }
 {
-    let n = columns.count;
-    let tags = columns.tags;
-    let forms = columns.forms;
-    let flags = columns.flags;
-    let Found::At(c) = lookup::find_column(&tags[0..n], tag) else {
-        return no_plan(refuse(answers::OUT_OF_TURN, 0));
+    let Some(c) = lookup::find_column(columns.tags(), tag) else {
+        return refuse(answers::OUT_OF_TURN, 0);
     };
-    plan_column(
-        book,
-        room,
-        at,
-        &forms[0..n],
-        &flags[0..keys],
-        c,
-        there,
-        value,
-        count,
-    )
+    let forms = columns.forms();
+    let flags = &columns.flags[0..keys];
+    plan_column(book, room, at, forms, flags, c, there, value, count)
 }
 
 // The book is judged, then the record and its column are found. In the header record no key binds.
-fn decide(book: &[u8], room: usize, which: Which, tag: u32, there: bool, value: &[u8]) -> Plan
+fn decide(
+    book: &[u8],
+    room: usize,
+    which: Which,
+    tag: u32,
+    there: bool,
+    value: &[u8],
+) -> Answer<Plan>
     requires { value.now ≡ entry_octets (offered there value.now) }
     ensures { result ≡ plan_of book.now room which tag (offered there value.now) }
 {
-    let j = book::judge(book);
-    let judged = j.judged;
-    match judged {
-        Judged::Refused(r) => no_plan(Verdict::Refused(r)),
-        Judged::Good {
-            length: _,
-            count,
-            header,
-            first,
-        } => match which {
-            Which::Header => {
-                let columns = j.header;
-                plan_in(book, room, columns, 0, header, tag, there, value, count)
+    let j = book::judge(book)?;
+    match which {
+        Which::Header => plan_in(book, room, j.header, 0, j.head, tag, there, value, j.count),
+        Which::Number(k) => {
+            if j.count <= k {
+                return refuse(answers::OUT_OF_TURN, 0);
             }
-            Which::Number(k) => {
-                if count <= k {
-                    return no_plan(refuse(answers::OUT_OF_TURN, 0));
-                }
-                let columns = j.address;
-                let at = lookup::place_behind(book, first, k);
-                plan_in(
-                    book,
-                    room,
-                    columns,
-                    columns.count,
-                    at,
-                    tag,
-                    there,
-                    value,
-                    count,
-                )
-            }
-        },
+            let keys = j.address.count;
+            let at = lookup::place_behind(book, j.first, k);
+            plan_in(book, room, j.address, keys, at, tag, there, value, j.count)
+        }
     }
 }
 
 // A value set where one is to be there, else cleared.
-fn correct(buf: &mut [u8], len: usize, which: Which, tag: u32, there: bool, value: &[u8]) -> Made
+fn correct(
+    buf: &mut [u8],
+    len: usize,
+    which: Which,
+    tag: u32,
+    there: bool,
+    value: &[u8],
+) -> Answer<usize>
     requires { value.now ≡ entry_octets (offered there value.now) }
     ensures { (result ≡ set_answer buf.old len which tag (offered there value.now)) × (buf.new ≡ set_octets buf.old len which tag (offered there value.now)) }
 {
     if buf.len() < len {
-        return Made::Refused(Refusal {
-            number: answers::OUT_OF_TURN,
-            place: 0,
-        });
+        return refuse(answers::OUT_OF_TURN, 0);
     }
-    let plan = decide(&buf[0..len], buf.len(), which, tag, there, value);
-    let verdict = plan.verdict;
-    if let Verdict::Refused(r) = verdict {
-        return Made::Refused(r);
-    }
+    let plan = decide(&buf[0..len], buf.len(), which, tag, there, value)?;
     let cell = plan.cell;
     editing::put_entry(buf, len, cell, there, value, plan.count);
-    Made::Done(len - cell.long + value.len())
+    Ok(len - cell.long + value.len())
 }
 
 // The value of a record with a whole tag of its table becomes the offered encoding.
-pub fn set(buf: &mut [u8], len: usize, which: Which, tag: u32, value: &[u8]) -> Made
+pub fn set(buf: &mut [u8], len: usize, which: Which, tag: u32, value: &[u8]) -> Answer<usize>
     ensures { (result ≡ set_answer buf.old len which tag (some value.now)) × (buf.new ≡ set_octets buf.old len which tag (some value.now)) }
 {
     correct(buf, len, which, tag, true, value)
 }
 
 // The record loses its value with a whole tag of its table.
-pub fn clear(buf: &mut [u8], len: usize, which: Which, tag: u32) -> Made
+pub fn clear(buf: &mut [u8], len: usize, which: Which, tag: u32) -> Answer<usize>
     ensures { (result ≡ set_answer buf.old len which tag none) × (buf.new ≡ set_octets buf.old len which tag none) }
 {
     let nothing = [0u8; 1];

@@ -2,7 +2,7 @@
 -- accepted finish leaves the octets of its book. Out of turn is answered exactly where it is not the call's turn.
 use Rattle.std.specs.Prelude.{ℕ, ◌≡◌, false, List, [], ◌∷◌, length}
 use Rattle.answers.specs.Numbers.{out_of_turn}
-use Rattle.answers.specs.declared.Verdict.TheVariants.{Clear as clear}
+use Rattle.answers.specs.Verdict.{clear}
 use Rattle.answers.specs.Verdict.{refused}
 use Rattle.framing.specs.Frame.{finish_at, finish_octets}
 use Rattle.begin.specs.Begin.{begin_at}

@@ -14,7 +14,7 @@ use Rattle.std.proofs.lemmas.List.{length-replicate}
 use Rattle.std.proofs.Math.Seq.{set_at}
 use borrow.Author.Tests.{eq-eqb, ne_eqb, eqb-false, lt-ltb}
 use Rattle.answers.specs.Numbers.{breaks_rule, most_octets, most_opened}
-use Rattle.answers.specs.declared.Verdict.TheVariants.{Clear as clear}
+use Rattle.answers.specs.Verdict.{clear}
 use Rattle.answers.specs.Verdict.{need}
 use Rattle.presence.specs.Presence.{room}
 use Rattle.value.specs.Types.{Form}

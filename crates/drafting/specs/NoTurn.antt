@@ -4,7 +4,7 @@
 use Rattle.std.specs.Prelude.{ℕ, ◌<◌, ◌≡◌, false, List, length}
 use Rattle.std.proofs.Common.{arith}
 use Rattle.answers.specs.Numbers.{out_of_turn}
-use Rattle.answers.specs.declared.Verdict.TheVariants.{Clear as clear}
+use Rattle.answers.specs.Verdict.{clear}
 use Rattle.answers.specs.Verdict.{refused}
 use Rattle.writing.specs.State.{sane_of, in_progress}
 use Rattle.writing.specs.Column.{column_for}

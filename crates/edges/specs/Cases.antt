@@ -1,10 +1,11 @@
 -- The ways of the code that lays down edges and cuts between them, on plain values.
 use Prim.Native.Nat.{ℕ, suc, ◌+◌, ◌-◌, ◌≤◌, ◌<◌}
 use native.Mathlib.Omega.{arith}
-use Rattle.std.proofs.Common.{add-zero, sym, ap, ◌∙◌, length-set, drop_of_length-le}
+use Rattle.std.proofs.Common.{refl, add-zero, sym, ap, ◌∙◌, length-set, drop_of_length-le}
 use Rattle.std.proofs.Math.Numerals.{add-one}
+use Rattle.std.specs.Result.{result_unwrap_or}
 use Rattle.std.specs.Prelude.{◌≡◌, Bool, true, false, not, cond, leb, take, drop, set}
-use mathlib.Core.List.{List, [], ◌∷◌, ◌++◌}
+use mathlib.Core.List.{List, [], ◌∷◌}
 use Rattle.std.proofs.Math.ListN.{length, get_or, length-drop, get_or-eq_default}
 use Rattle.std.proofs.Math.Seq.{drop-drop}
 use borrow.Author.Tests.{le-leb, lt-leb, lt-ltb, le-ltb, eq-eqb, ne_eqb, not-true, not-false}
@@ -13,11 +14,11 @@ use Rattle.octets.specs.Splice.{splice, stored, stored-in, stored-out, stored-ni
 use Rattle.octets.specs.Stores.{splice-one, laid_one}
 use Rattle.octets.specs.Word.{word_of}
 use Rattle.presence.specs.Presence.{room, is_set}
-use Rattle.answers.specs.declared.Walk.{Walk}
-use Rattle.answers.specs.declared.Walk.TheVariants.{Ends, Broken}
+use Rattle.answers.specs.Walk.{Walk}
+use Rattle.answers.specs.Walk.{Ends, Broken}
 use Rattle.value.specs.Types.{form_at}
-use Rattle.whole.specs.declared.Number.{Number}
-use Rattle.whole.specs.declared.Number.TheVariants.{Is, Broken as NoNumber}
+use Rattle.whole.specs.Number.{Number}
+use Rattle.whole.specs.Number.{Some, Broken as NoNumber}
 use Rattle.whole.specs.Number.{number_of}
 use Rattle.text.specs.Narrow.{narrow_of}
 use Rattle.value.specs.Value.{numeric_of, element_of, value_of}
@@ -52,7 +53,7 @@ unfolding form_at value_of element_of
 pass-narrow f ys r e q = rw e q
 
 module _ (f : ℕ) (ys : List ℕ) (e : f ≡ 0) (r : Number) (q : r ≡ number_of ys) where
-  pub pass-number : (n w : ℕ) → r ≡ Is n w → Ends w ≡ value_of (form_at f) ys
+  pub pass-number : (n w : ℕ) → r ≡ Some (n, w) → Ends w ≡ value_of (form_at f) ys
   unfolding form_at value_of element_of numeric_of
   pass-number n w z = rw (e, ← q, z)
 
@@ -85,16 +86,17 @@ module _ (p : List ℕ) (i f : ℕ) (ys : List ℕ) (t : Bool) (e : t ≡ is_set
     short-fits u q y = width_fits p i f ys 1 (width-short u q y)
 
     module _ (r : Walk) (q : r ≡ value_of (form_at f) ys) where
-      pub width-ends : (w : ℕ) → r ≡ Ends w → w ≡ width_of (step_of p i (form_at f) ys)
-      width-ends w y = rw (step_is, ← q, y)
+      pub width-passed : (w : ℕ) → w ≡ result_unwrap_or r 0 → w ≡ width_of (step_of p i (form_at f) ys)
+      width-passed w y = rw (step_is, ← q, y) (same r)
+        where
+          same : (r : Walk) → result_unwrap_or r 0 ≡ width_of r
+          same (Ends w) = refl
+          same (Broken k) = refl
 
-      pub ends-fit : (w : ℕ) → r ≡ Ends w → w ≤ length ys
-      ends-fit w y = width_fits p i f ys w (width-ends w y)
+      pub passed-fits : (w : ℕ) → w ≡ result_unwrap_or r 0 → w ≤ length ys
+      passed-fits w y = width_fits p i f ys w (width-passed w y)
 
-      pub width-breaks : (k : ℕ) → r ≡ Broken k → 0 ≡ width_of (step_of p i (form_at f) ys)
-      width-breaks k y = rw (step_is, ← q, y)
-
-pub ruleset widths = (width-absent, width-short, short-fits, width-ends, ends-fit, width-breaks)
+pub ruleset widths = (width-absent, width-short, short-fits, width-passed, passed-fits)
 
 -- ---- fill_edges
 
@@ -128,10 +130,11 @@ module _ (d e forms p s : List ℕ) (at j i : ℕ)
         laid_one e (at + i) later j (omega arith) ∙ ap (splice e j) (sym turn) ∙ inv
 
   pub edges-end : length forms ≤ j → j ≤ length forms
-      → set e j (at + i) ≡ splice d 0 (edges_from (passed forms) 0 p at s)
+      → set e (length forms) (at + i) ≡ splice d 0 (edges_from (passed forms) 0 p at s)
   unfolding edges_from
   edges-end h k =
-      splice-one e j (at + i) (omega arith) ∙ rw (drop_of_length-le forms {i = j} h) at inv
+      let q : length forms ≡ j = omega arith in
+      rw q (splice-one e j (at + i) (omega arith) ∙ rw (drop_of_length-le forms {i = j} h) at inv)
 
 pub edges-kept : (d e : List ℕ) (i r : ℕ) → length e ≡ length d → length (set e i r) ≡ length d
 edges-kept d e i r q = length-set e i r ∙ q

@@ -1,6 +1,6 @@
 -- The edges of a record: one in front of the value of each column, and one behind the last. Between two edges stands
 -- what the row that is read there has in that column.
-use Prim.Native.Nat.{ℕ, zero, suc, ◌+◌, ◌-◌, ◌^◌, ◌≤◌, ◌<◌}
+use Prim.Native.Nat.{ℕ, zero, suc, ◌+◌, ◌-◌, ◌≤◌, ◌<◌}
 use Rattle.std.proofs.Common.{arith, add-one, sym, ◌∙◌, length-append, length-drop, drop-drop, length-take-le}
 use Rattle.std.specs.Prelude.{◌≡◌, refl, Bool, true, false, cond, List, [], ◌∷◌, ◌++◌, ltb, leb, get_or, take, drop}
 use Rattle.std.proofs.Math.Path.{ap}
@@ -11,8 +11,8 @@ use borrow.Author.Tests.{le-leb, le-ltb}
 use Rattle.octets.specs.Splice.{splice, stored, stored-in}
 use Rattle.octets.specs.Word.{word_of}
 use Rattle.answers.specs.Numbers.{most_columns, most_octets}
-use Rattle.answers.specs.declared.Walk.{Walk}
-use Rattle.answers.specs.declared.Walk.TheVariants.{Ends, Broken}
+use Rattle.answers.specs.Walk.{Walk}
+use Rattle.answers.specs.Walk.{Ends, Broken}
 use Rattle.presence.specs.Presence.{room, is_set}
 use Rattle.value.specs.Types.{Form, form_at}
 use Rattle.value.specs.Value.{value_of}

@@ -1,6 +1,6 @@
 -- In a good record a value is passed over by less than its form: a text ends where a narrow string would, so its
 -- characters need no second look. What is sound under the forms of its columns is sound under those it is passed by.
-use Rattle.std.specs.Prelude.{ℕ, zero, suc, ◌+◌, ◌≤◌, ◌<◌, ◌≡◌, refl, Bool, cond, List, [], ◌∷◌, ◌++◌, eqb, length, drop}
+use Rattle.std.specs.Prelude.{ℕ, zero, suc, ◌+◌, ◌≡◌, refl, Bool, cond, List, [], ◌∷◌, ◌++◌, eqb, length, drop}
 use Rattle.std.proofs.Common.{arith, ap, ap₂, ◌∙◌, eq-eqb, ne_eqb}
 use Rattle.std.proofs.Math.Decide.{ℕ_discrete}
 use Rattle.std.proofs.Math.Option.{Option, none, some}

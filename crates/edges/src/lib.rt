@@ -16,7 +16,6 @@ ghost use Rattle.edges.specs.Cases.{edges_inside};
 use answers::Walk;
 use octets::word32;
 use value::{LIST, NARROW, NUMBER, TEXT};
-use whole::Number;
 
 // As many edges as a record may have: one more than columns.
 pub const MOST_EDGES: usize = 129;
@@ -43,8 +42,8 @@ fn pass_value(form: u8, s: &[u8]) -> Walk
     }
     if form == NUMBER {
         return match whole::read_number(s) {
-            Number::Is(_, w) => Walk::Ends(w),
-            Number::Broken => Walk::Broken(0),
+            Some((_, w)) => Ok(w),
+            None => Err(0),
         };
     }
     value::walk_value(form, s)
@@ -61,10 +60,7 @@ fn column_width(p: &[u8], i: usize, form: u8, s: &[u8]) -> usize
     if value::is_short(form, s) {
         return 1;
     }
-    let Walk::Ends(w) = pass_value(form, s) else {
-        return 0;
-    };
-    w
+    pass_value(form, s).unwrap_or(0)
 }
 
 // `p` has the presence octets, `forms` the form of each column's values, and `s` is what follows the presence octets
@@ -74,14 +70,12 @@ fn fill_edges(p: &[u8], forms: &[u8], s: &[u8], at: usize, edges: &mut [usize])
     ensures { edges.new ≡ splice edges.old 0
         (edges_from (passed forms.now) 0 p.now at s.now) }
 {
-    let mut j = 0;
     let mut i = 0;
-    while j < forms.len() {
+    for (j, form) in forms.iter().enumerate() {
         edges[j] = at + i;
-        i += column_width(p, j, pass_form(forms[j]), &s[i..]);
-        j += 1;
+        i += column_width(p, j, pass_form(*form), &s[i..]);
     }
-    edges[j] = at + i;
+    edges[forms.len()] = at + i;
 }
 
 // Of the record `t`, which has its size field and its presence octets and stands at `at`.

@@ -1,5 +1,5 @@
 -- What a correction leaves: both tables, every other record in the old order, every other column's entry of the named record.
-use Rattle.std.specs.Prelude.{ℕ, ◌+◌, ◌-◌, ◌≤◌, ◌<◌, ◌≡◌, length, get_or, take, set}
+use Rattle.std.specs.Prelude.{ℕ, ◌+◌, ◌≤◌, ◌<◌, ◌≡◌, length, get_or, take, set}
 use Rattle.std.proofs.Common.{arith, ap, ◌∙◌, length-set, length-take-le, get_or-set_same, get_or-set_other}
 use Rattle.std.proofs.Math.Path.{refl}
 use Rattle.std.proofs.Math.Option.{Option}

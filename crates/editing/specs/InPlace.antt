@@ -13,8 +13,8 @@ use Rattle.std.proofs.Math.Seq.{slice, length-slice, drop-append-add}
 use borrow.Rule.Slice.PartMut.{put_mid}
 use borrow.Author.Tests.{le-leb, lt-leb, leb-true}
 use Rattle.answers.specs.Numbers.{breaks_rule, no_room, most_octets}
-use Rattle.answers.specs.declared.Verdict.{Verdict}
-use Rattle.answers.specs.declared.Verdict.TheVariants.{Clear as clear}
+use Rattle.answers.specs.Verdict.{Verdict}
+use Rattle.answers.specs.Verdict.{clear}
 use Rattle.answers.specs.Verdict.{refused, ◌then◌, need, apart, unmet}
 use Rattle.octets.specs.Splice.{splice, stored, moved, stored-in, moved_in, stored-join}
 use Rattle.octets.specs.Word.{le_of, word_of}

@@ -1,11 +1,11 @@
 -- What is offered for a book: octets that are one value of a form, or one record, to their last octet.
-use Rattle.std.specs.Prelude.{ℕ, ◌+◌, ◌≡◌, List, [], ◌++◌, length, drop}
+use Rattle.std.specs.Prelude.{ℕ, ◌≡◌, List, [], ◌++◌, length, drop}
 use Rattle.std.proofs.Common.{arith, sym, ap, ◌∙◌, append-nil, length-append}
 use Rattle.std.proofs.Math.Seq.{drop-length}
 use Rattle.octets.specs.Octets.{Octets, no-octets}
 use Rattle.octets.specs.Word.{word_of}
-use Rattle.answers.specs.declared.Verdict.TheVariants.{Clear as clear}
-use Rattle.answers.specs.declared.Walk.TheVariants.{Ends}
+use Rattle.answers.specs.Verdict.{clear}
+use Rattle.answers.specs.Walk.{Ends}
 use Rattle.value.specs.Types.{Form}
 use Rattle.value.specs.Value.{value_of}
 use Rattle.value.specs.Form.{IsValue, value-sound}

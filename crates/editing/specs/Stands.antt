@@ -1,9 +1,9 @@
 -- The records of a book that is judged good stand in it, where one walks to them.
 use Rattle.std.specs.Prelude.{ℕ, zero, suc, ◌+◌, ◌-◌, ◌≤◌, ◌<◌, ◌≡◌, refl, List, ltb, leb, length, drop}
-use Rattle.std.proofs.Common.{arith, add-one, ◌∙◌, length-drop, drop-drop, leb-true, ltb-true}
+use Rattle.std.proofs.Common.{arith, add-one, length-drop, drop-drop, leb-true, ltb-true}
 use Rattle.octets.specs.Word.{word_of}
 use Rattle.answers.specs.Numbers.{cut_short, wrong_size, wrong_count}
-use Rattle.answers.specs.declared.Verdict.TheVariants.{Clear as clear}
+use Rattle.answers.specs.Verdict.{clear}
 use Rattle.answers.specs.Verdict.{need, apart, unmet}
 use Rattle.presence.specs.Presence.{room}
 use Rattle.entry.specs.Record.{Slot, record_at}

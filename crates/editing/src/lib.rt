@@ -145,6 +145,8 @@ fn put_entry_in(buf: &mut [u8], len: usize, s: Cell, there: bool, value: &[u8], 
 }
 
 // The entry becomes `value` where one is to be there, else nothing; presence bit, size and header follow. Where that does not fit nothing changes.
+// A flag beside the octets and no Option: the call answers for every pair, and octets offered where none is to be there
+// change nothing.
 pub fn put_entry(buf: &mut [u8], len: usize, s: Cell, there: bool, value: &[u8], count: usize)
     ensures { buf.new ≡ entry_behind buf.old len s there value.now count }
 {
@@ -164,5 +166,5 @@ pub fn judge_room(n: usize, room: usize) -> Verdict
     if room < n {
         return refuse(answers::NO_ROOM, 0);
     }
-    Verdict::Clear
+    Ok(())
 }

@@ -7,11 +7,11 @@ use Rattle.std.proofs.lemmas.Bool.{eqb-false}
 use Rattle.octets.specs.Octets.{Octets, octets-drop, octets-take, octets-left}
 use Rattle.octets.specs.Word.{word_of}
 use Rattle.answers.specs.Numbers.{cut_short, wrong_size, spare_bit, key_absent, broken_value, octets_left}
-use Rattle.answers.specs.declared.Verdict.{Verdict}
-use Rattle.answers.specs.declared.Verdict.TheVariants.{Clear as clear}
+use Rattle.answers.specs.Verdict.{Verdict}
+use Rattle.answers.specs.Verdict.{clear}
 use Rattle.answers.specs.Verdict.{refused, ◌then◌, need, place_of, no-clear, unmet, other-number, from-refusal, apart}
-use Rattle.answers.specs.declared.Walk.{Walk}
-use Rattle.answers.specs.declared.Walk.TheVariants.{Ends, Broken}
+use Rattle.answers.specs.Walk.{Walk}
+use Rattle.answers.specs.Walk.{Ends, Broken}
 use Rattle.presence.specs.Presence.{room, is_set, spare_clear}
 use Rattle.value.specs.Value.{value_of}
 use Rattle.value.specs.Form.{value-sound, Stands}

@@ -5,8 +5,8 @@ use Rattle.std.specs.Prelude.{ℕ, suc, ◌^◌, ◌<◌, ◌≡◌, refl, cond,
 use Rattle.std.proofs.Common.{ap}
 use Rattle.std.proofs.Math.Option.{Option, none, some}
 use Rattle.std.proofs.Math.Seq.{take-append_seam, drop-append_seam}
-use Rattle.answers.specs.declared.Walk.{Walk}
-use Rattle.answers.specs.declared.Walk.TheVariants.{Ends, Broken}
+use Rattle.answers.specs.Walk.{Walk}
+use Rattle.answers.specs.Walk.{Ends, Broken}
 use Rattle.presence.specs.Presence.{is_set}
 use Rattle.value.specs.Types.{Form}
 use Rattle.value.specs.Value.{value_of}

@@ -1,5 +1,5 @@
 -- The ways of the calls that export, on plain values.
-use Rattle.std.specs.Prelude.{ℕ, ◌+◌, ◌-◌, ◌*◌, ◌^◌, ◌≤◌, ◌<◌, true, leb, drop, get_or, replicate}
+use Rattle.std.specs.Prelude.{Err, Ok, ℕ, ◌+◌, ◌-◌, ◌*◌, ◌^◌, ◌≤◌, ◌<◌, true, leb, get_or, replicate}
 use Rattle.std.proofs.Common.{arith, ◌∙◌, length-append, take_at, Fits}
 use Rattle.std.proofs.Math.Nat.{sub-zero}
 use Rattle.std.proofs.Math.Path.{◌≡◌, refl, sym, ap, ap₂}
@@ -12,22 +12,20 @@ use Rattle.octets.specs.Splice.{splice, stored, stored-in}
 use Rattle.octets.specs.Stores.{laid, laid-long}
 use Rattle.answers.specs.Numbers.{out_of_turn, no_room, breaks_form, most_records}
 use Rattle.answers.specs.declared.Refusal.{Refusal}
-use Rattle.answers.specs.declared.Verdict.{Verdict}
-use Rattle.answers.specs.declared.Verdict.TheVariants.{Clear as clear, Refused}
+use Rattle.answers.specs.Verdict.{Answer, Verdict}
+use Rattle.answers.specs.Verdict.{clear, Refused}
 use Rattle.answers.specs.Verdict.{◌then◌, need, kept, apart, unmet}
-use Rattle.answers.specs.declared.Made.{Made}
-use Rattle.answers.specs.declared.Made.TheVariants as made
+use Rattle.answers.specs.Made.{Made}
 use Rattle.answers.specs.Made.{answered, answered-done}
 use Rattle.table.specs.declared.Columns.{Columns}
 use Rattle.table.specs.Columns.{tags_of, forms_of, columns_in}
 use Rattle.edges.specs.Edges.{most_edges}
-use Rattle.book.specs.Book.{cols_in, count_in}
+use Rattle.book.specs.Book.{count_in}
 use Rattle.book.specs.Front.{first_place}
 use Rattle.book.specs.Judged.{judged_of}
-use Rattle.book.specs.Good.{GoodIs, good-is, refused-by, good-keeps, tags-in, forms-in, reach-tags, reach-forms}
+use Rattle.book.specs.Good.{GoodIs, good-is, refused-by, good-keeps, tags-in, forms-in}
 use Rattle.book.specs.Read.{book_in}
 use Rattle.book.specs.declared.Judgement.{Judgement}
-use Rattle.book.specs.declared.Judged.TheVariants as judged
 use Rattle.sheet.specs.Digits.{digits_long}
 use Rattle.sheet.specs.Field.{all_exported, most_chosen, end_of, line_of, tag_field, tag_fields}
 use Rattle.exporting.specs.Export.{all_known, choice_at, sheet_at, export_at, length_answer}
@@ -68,38 +66,34 @@ choice-few cols tags e =
     let c₄ = apart (need (leb (length tags) most_chosen) breaks_form 0) _ c₃.1 in
     (unmet _ out_of_turn 0 c₁.0, leb-true (length tags) most_chosen (unmet _ breaks_form 0 c₄.0))
 
-module _ (columns : Columns) (tags places : List ℕ) (few : length tags ≤ most_chosen)
-    (p : places ≡ places_for (take (columns.count - 0) columns.tags) tags) where
+module _ (columns : Columns) (tags places : List ℕ) (few : length tags ≤ most_chosen) (ts : List ℕ)
+    (te : ts ≡ take columns.count columns.tags) (p : places ≡ places_for ts tags) where
   pub places-reach : length tags ≤ length places
   places-reach =
-      let l = places-long (take (columns.count - 0) columns.tags) tags in
+      let l = places-long ts tags in
       rw p
-      (rw (length-append (places_in (take (columns.count - 0) columns.tags) tags)
+      (rw (length-append (places_in ts tags)
       (replicate (most_chosen - length tags) 0)) (omega arith))
 
   places-are : take (length tags - 0) places ≡ places_in (take columns.count columns.tags) tags
   places-are =
-      rw (p, sub-zero columns.count, sub-zero (length tags))
+      rw (p, te, sub-zero (length tags))
       (take_at (places_in (take columns.count columns.tags) tags) (replicate (most_chosen - length tags) 0)
       (length tags) (places-long (take columns.count columns.tags) tags))
 
-  sheet-is : (xs : List ℕ) (n at : ℕ)
-      → sheet_by xs (take (columns.count - 0) columns.forms) tags (take (length tags - 0) places) n at
-      ≡ sheet_from xs columns tags n at
+  sheet-is : (xs : List ℕ) (n at : ℕ) (fs : List ℕ) → fs ≡ take columns.count columns.forms
+      → sheet_by xs fs tags (take (length tags - 0) places) n at ≡ sheet_from xs columns tags n at
   unfolding sheet_from
-  sheet-is xs n at =
-      ap₂ (λ (f p : List ℕ). sheet_by xs f tags p n at)
-      (ap (λ (k : ℕ). take k columns.forms) (sub-zero columns.count))
-      places-are
+  sheet-is xs n at fs fe = ap₂ (λ (f p : List ℕ). sheet_by xs f tags p n at) fe places-are
 
 -- ---- measure_good
 
-module _ (xs : List ℕ) (columns : Columns) (tags : List ℕ) (n at : ℕ) (v : Verdict)
-    (e : v ≡ choice_at (take (columns.count - 0) columns.tags) tags) where
+module _ (xs : List ℕ) (columns : Columns) (tags : List ℕ) (n at : ℕ) (v : Verdict) (ts : List ℕ)
+    (te : ts ≡ take columns.count columns.tags) (e : v ≡ choice_at ts tags) where
   choice-is : choice_from columns tags ≡ v
-  choice-is = rw (sub-zero columns.count) at (sym e)
+  choice-is = rw te at (sym e)
 
-  pub measure-refused : (r : Refusal) → v ≡ Refused r → made.Refused r ≡ good_length xs columns tags n at
+  pub measure-refused : (r : Refusal) → v ≡ Refused r → Err r ≡ good_length xs columns tags n at
   unfolding good_length
   measure-refused r z = rw (choice-is, z)
 
@@ -107,17 +101,16 @@ module _ (xs : List ℕ) (columns : Columns) (tags : List ℕ) (n at : ℕ) (v :
     pub measure-few : length tags ≤ most_chosen
     measure-few = (choice-few (take columns.count columns.tags) tags (choice-is ∙ z)).1
 
-    module _ (places : List ℕ) (p : places ≡ places_for (take (columns.count - 0) columns.tags) tags) where
+    module _ (places : List ℕ) (p : places ≡ places_for ts tags) where
       pub measure-part : length tags ≤ length places
-      measure-part = places-reach columns tags places measure-few p
+      measure-part = places-reach columns tags places measure-few ts te p
 
-      pub measure-done : (r : ℕ)
-          → r
-          ≡ length (sheet_by xs (take (columns.count - 0) columns.forms) tags (take (length tags - 0) places) n at)
-          → made.Done r ≡ good_length xs columns tags n at
+      pub measure-done : (r : ℕ) (fs : List ℕ) → fs ≡ take columns.count columns.forms
+          → r ≡ length (sheet_by xs fs tags (take (length tags - 0) places) n at)
+          → Ok r ≡ good_length xs columns tags n at
       unfolding good_length
-      measure-done r q =
-          rw (choice-is, z) (ap made.Done (q ∙ ap length (sheet-is columns tags places measure-few p xs n at)))
+      measure-done r fs fe q =
+          rw (choice-is, z) (ap Ok (q ∙ ap length (sheet-is columns tags places measure-few ts te p xs n at fs fe)))
 
 pub ruleset measure_cases = (measure-refused, measure-few, measure-part, measure-done)
 
@@ -139,17 +132,16 @@ module _ (xs : List ℕ) (columns : Columns) (tags d : List ℕ) (n at : ℕ)
   pub write-tags : 0 + length (line_of (tag_fields tags)) ≤ length d
   write-tags = let l = front_fits xs columns tags d n at h in omega arith
 
-  module _ (few : length tags ≤ most_chosen) (places : List ℕ)
-      (p : places ≡ places_for (take (columns.count - 0) columns.tags) tags) (mid : List ℕ) (to : ℕ)
+  module _ (few : length tags ≤ most_chosen) (places ts : List ℕ) (te : ts ≡ take columns.count columns.tags)
+      (p : places ≡ places_for ts tags) (fs : List ℕ) (fe : fs ≡ take columns.count columns.forms) (mid : List ℕ) (to : ℕ)
       (q : mid ≡ splice d 0 (line_of (tag_fields tags))) (e : to ≡ 0 + length (line_of (tag_fields tags))) where
     abbrev lines : List ℕ
     lines =
-        lines_by xs (take (columns.count - 0) columns.forms) tags (take (length tags - 0) places) n at
-        (replicate most_edges 0)
+        lines_by xs fs tags (take (length tags - 0) places) n at (replicate most_edges 0)
 
     whole : line_of (tag_fields tags) ++ lines ≡ sheet_from xs columns tags n at
     unfolding sheet_by
-    whole = sheet-is columns tags places few p xs n at
+    whole = sheet-is columns tags places few ts te p xs n at fs fe
 
     whole_long : length (line_of (tag_fields tags)) + length lines ≤ length d
     whole_long =
@@ -168,10 +160,9 @@ module _ (xs : List ℕ) (columns : Columns) (tags d : List ℕ) (n at : ℕ)
         let l = whole_long in
         z ∙ laid d mid (line_of (tag_fields tags)) lines 0 to q e (omega arith) ∙ ap (splice d 0) whole
 
-pub write-part : (columns : Columns) (tags places : List ℕ)
-    → places ≡ places_for (take (columns.count - 0) columns.tags) tags → length tags ≤ most_chosen
-    → length tags ≤ length places
-write-part columns tags places p few = places-reach columns tags places few p
+pub write-part : (columns : Columns) (tags places ts : List ℕ) → ts ≡ take columns.count columns.tags
+    → places ≡ places_for ts tags → length tags ≤ most_chosen → length tags ≤ length places
+write-part columns tags places ts te p few = places-reach columns tags places few ts te p
 
 pub ruleset write_cases = (write-tags, write-part, write-lines, write-put)
 
@@ -179,33 +170,33 @@ pub ruleset write_cases = (write-tags, write-part, write-lines, write-put)
 
 module _ (xs : List ℕ) (columns : Columns) (tags d : List ℕ) (n at : ℕ) (m : Made)
     (e : m ≡ good_length xs columns tags n at) where
-  pub good-refused : (r : Refusal) → m ≡ made.Refused r → m ≡ good_answer xs columns tags n at d
+  pub good-refused : (r : Refusal) → m ≡ Err r → Err r ≡ good_answer xs columns tags n at d
   unfolding good_answer good_length
   good-refused r z = go (choice_from columns tags) e
     where
       go : (v : Verdict) → m ≡ answered v (length (sheet_from xs columns tags n at))
-          → m ≡ answered (v then need (leb (length (sheet_from xs columns tags n at)) (length d)) no_room 0)
+          → Err r ≡ answered (v then need (leb (length (sheet_from xs columns tags n at)) (length d)) no_room 0)
           (length (sheet_from xs columns tags n at))
-      go clear y = let o : ◌≡◌ {A = ℕ} 0 1 = cc in absurd (omega arith)
-      go (Refused s) y = y
+      go (Ok _) y = let o : ◌≡◌ {A = ℕ} 0 1 = cc in absurd (omega arith)
+      go (Refused s) y = sym z ∙ y
 
-  pub good_left : (r : Refusal) → m ≡ made.Refused r → d ≡ good_octets xs columns tags n at d
+  pub good_left : (r : Refusal) → m ≡ Err r → d ≡ good_octets xs columns tags n at d
   unfolding good_octets good_length
   good_left r z = go (choice_from columns tags) e
     where
       go : (v : Verdict) → m ≡ answered v (length (sheet_from xs columns tags n at))
           → d ≡ kept (v then need (leb (length (sheet_from xs columns tags n at)) (length d)) no_room 0) d
           (stored d 0 (sheet_from xs columns tags n at))
-      go clear y = let o : ◌≡◌ {A = ℕ} 0 1 = cc in absurd (omega arith)
+      go (Ok _) y = let o : ◌≡◌ {A = ℕ} 0 1 = cc in absurd (omega arith)
       go (Refused s) y = refl
 
-  module _ (size : ℕ) (z : m ≡ made.Done size) where
+  module _ (size : ℕ) (z : m ≡ Ok size) where
     done : (choice_from columns tags ≡ clear) × (length (sheet_from xs columns tags n at) ≡ size)
     unfolding good_length
     done = answered-done (choice_from columns tags) (length (sheet_from xs columns tags n at)) size (sym e ∙ z)
 
     pub good-no : length d < size
-        → made.Refused (record { number = no_room; place = 0 }) ≡ good_answer xs columns tags n at d
+        → Err (record { number = no_room; place = 0 }) ≡ good_answer xs columns tags n at d
     unfolding good_answer
     good-no h = rw (done.0, done.1, lt-leb size (length d) h)
 
@@ -220,7 +211,7 @@ module _ (xs : List ℕ) (columns : Columns) (tags d : List ℕ) (n at : ℕ) (m
       pub good-room : length (sheet_from xs columns tags n at) ≤ length d
       good-room = rw done.1 h
 
-      pub good-done : made.Done size ≡ good_answer xs columns tags n at d
+      pub good-done : Ok size ≡ good_answer xs columns tags n at d
       unfolding good_answer
       good-done = rw (done.0, done.1, le-leb size (length d) h)
 
@@ -236,39 +227,33 @@ pub ruleset good_cases = (good-refused, good_left, good-no, good-kept, good-done
 
 -- ---- sheet_length and export
 
-module _ (xs tags : List ℕ) (j : Judgement) (e : j ≡ judged_of xs) where
-  pub length-refused : (r : Refusal) → j.judged ≡ judged.Refused r → made.Refused r ≡ length_answer xs tags
+module _ (xs tags : List ℕ) (u : Answer Judgement) (e : u ≡ judged_of xs) where
+  pub length-refused : (r : Refusal) → u ≡ Err r → Err r ≡ length_answer xs tags
   unfolding length_answer sheet_at
-  length-refused r q = rw (refused-by xs j e r q)
+  length-refused r q = rw (refused-by xs u e r q)
 
-  pub export-refused : (r : Refusal) (d : List ℕ) → j.judged ≡ judged.Refused r
-      → made.Refused r ≡ export_answer xs tags d
+  pub export-refused : (r : Refusal) (d : List ℕ) → u ≡ Err r
+      → Err r ≡ export_answer xs tags d
   unfolding export_answer export_at sheet_at
-  export-refused r d q = rw (refused-by xs j e r q)
+  export-refused r d q = rw (refused-by xs u e r q)
 
-  pub export-left : (r : Refusal) (d : List ℕ) → j.judged ≡ judged.Refused r → d ≡ export_octets xs tags d
+  pub export-left : (r : Refusal) (d : List ℕ) → u ≡ Err r → d ≡ export_octets xs tags d
   unfolding export_octets export_at sheet_at
-  export-left r d q = rw (refused-by xs j e r q)
+  export-left r d q = rw (refused-by xs u e r q)
 
-  module _ (l c h f : ℕ) (q : j.judged ≡ judged.Good l c h f) where
-    good : GoodIs xs j c h f
-    good = good-is xs j l c h f e q
+  module _ (j : Judgement) (q : u ≡ Ok j) where
+    good : GoodIs xs j
+    good = good-is xs u j e q
 
     -- what the columns and the places keep to
     pub book-short : length xs < 2 ^ 32
     book-short = let k = good-keeps xs good.clears in omega arith
 
-    pub first-near : f < 2 ^ 32
+    pub first-near : j.first < 2 ^ 32
     first-near = let k = good-keeps xs good.clears in let g = good.first in omega arith
 
-    pub count-few : c ≤ most_records
+    pub count-few : j.count ≤ most_records
     count-few = let k = good-keeps xs good.clears in rw good.count k.1
-
-    pub tags-reach : j.address.count ≤ length j.address.tags
-    tags-reach = rw good.cols (reach-tags (cols_in (drop 12 xs)))
-
-    pub forms-reach : j.address.count ≤ length j.address.forms
-    forms-reach = rw good.cols (reach-forms (cols_in (drop 12 xs)))
 
     cols-are : j.address ≡ columns_in (book_in xs).cols
     unfolding book_in
@@ -280,7 +265,7 @@ module _ (xs tags : List ℕ) (j : Judgement) (e : j ≡ judged_of xs) where
         sheet_by xs (forms_of (book_in xs).cols) tags (places_in (tags_of (book_in xs).cols) tags) (count_in xs)
         (first_place xs)
 
-    coded-is : sheet_from xs j.address tags c f ≡ coded
+    coded-is : sheet_from xs j.address tags j.count j.first ≡ coded
     unfolding sheet_from
     coded-is = rw (cols-are, good.count, good.first, tags-in (book_in xs).cols, forms-in (book_in xs).cols)
 
@@ -296,28 +281,30 @@ module _ (xs tags : List ℕ) (j : Judgement) (e : j ≡ judged_of xs) where
       one-sheet {X} g k = go (choice_at (tags_of (book_in xs).cols) tags) refl
         where
           go : (v : Verdict) → choice_at (tags_of (book_in xs).cols) tags ≡ v → g v coded ≡ g v (sheet_in xs tags)
-          go clear z =
+          go (Ok _) z =
               ap (g clear)
               (sheet-tied xs tags (octets-from xs o) good.clears (choice-few (tags_of (book_in xs).cols) tags z).0)
           go (Refused r) z = k r coded (sheet_in xs tags)
 
-      pub length-done : (m : Made) → m ≡ good_length xs j.address tags c f → m ≡ length_answer xs tags
+      pub length-done : (m : Made) → m ≡ good_length xs j.address tags j.count j.first → m ≡ length_answer xs tags
       unfolding good_length length_answer sheet_at
       length-done m z =
           z ∙ rw (choice-same, coded-is, good.clears) (one-sheet (λ v s. answered v (length s)) (λ r s t. refl))
 
-      pub export-done : (m : Made) (d : List ℕ) → m ≡ good_answer xs j.address tags c f d → m ≡ export_answer xs tags d
+      pub export-done : (m : Made) (d : List ℕ) → m ≡ good_answer xs j.address tags j.count j.first d
+          → m ≡ export_answer xs tags d
       unfolding good_answer export_answer export_at sheet_at
       export-done m d z =
           z ∙ rw (choice-same, coded-is, good.clears)
           (one-sheet (λ v s. answered (v then need (leb (length s) (length d)) no_room 0) (length s)) (λ r s t. refl))
 
-      pub export-put : (d end : List ℕ) → end ≡ good_octets xs j.address tags c f d → end ≡ export_octets xs tags d
+      pub export-put : (d end : List ℕ) → end ≡ good_octets xs j.address tags j.count j.first d
+          → end ≡ export_octets xs tags d
       unfolding good_octets export_octets export_at sheet_at
       export-put d end z =
           z ∙ rw (choice-same, coded-is, good.clears)
           (one-sheet (λ v s. kept (v then need (leb (length s) (length d)) no_room 0) d (stored d 0 s)) (λ r s t. refl))
 
-pub ruleset book_keeps = (book-short, first-near, count-few, tags-reach, forms-reach)
+pub ruleset book_keeps = (book-short, first-near, count-few)
 
 pub ruleset export_cases = (length-refused, export-refused, export-left, length-done, export-done, export-put)

@@ -12,12 +12,12 @@ use Rattle.octets.specs.Octets.{Octets}
 use Rattle.octets.specs.Splice.{length-stored}
 use Rattle.octets.specs.Word.{word_of}
 use Rattle.answers.specs.Numbers.{most_octets}
-use Rattle.answers.specs.declared.Verdict.TheVariants.{Clear as clear}
+use Rattle.answers.specs.Verdict.{clear}
 use Rattle.value.specs.Form.{value-some}
 use Rattle.table.specs.Columns.{tags_of, forms_of, bits_of, tags-long, forms-long}
 use Rattle.table.specs.Found.{is_found}
-use Rattle.table.specs.declared.Found.{Found}
-use Rattle.table.specs.declared.Found.TheVariants.{At, Nothing}
+use Rattle.table.specs.Found.{Found}
+use Rattle.table.specs.Found.{At, Nothing}
 use Rattle.entry.specs.Present.{Row}
 use Rattle.entry.specs.Record.{Slot, no_slot, row_octets, SoundEntry, SoundRow, row-size, sound-entry, unlike}
 use Rattle.entry.specs.Values.{entry_octets}

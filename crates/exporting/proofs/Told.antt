@@ -3,7 +3,7 @@
 -- for.
 use Prim.Native.Nat.{ℕ, zero, suc, ◌%◌, ◌≤◌, ◌<◌}
 use Rattle.std.proofs.Common.{arith, sym, ◌∙◌, le-leb}
-use Rattle.std.specs.Prelude.{◌≡◌, refl, leb, length}
+use Rattle.std.specs.Prelude.{Err, Ok, ◌≡◌, refl, leb, length}
 use Rattle.std.proofs.Math.Path.{ap}
 use Rattle.std.proofs.Math.Option.{Option, none, some}
 use mathlib.Core.List.{List, [], ◌∷◌}
@@ -11,14 +11,13 @@ use Rattle.std.proofs.Math.ListN.{get_or}
 use Rattle.octets.specs.Octets.{Octets}
 use Rattle.answers.specs.Numbers.{out_of_turn, no_room, breaks_form}
 use Rattle.answers.specs.declared.Refusal.{Refusal}
-use Rattle.answers.specs.declared.Verdict.{Verdict}
-use Rattle.answers.specs.declared.Verdict.TheVariants.{Clear as clear, Refused}
+use Rattle.answers.specs.Verdict.{Verdict}
+use Rattle.answers.specs.Verdict.{clear, Refused}
 use Rattle.answers.specs.Verdict.{◌then◌, need, apart, unmet}
-use Rattle.answers.specs.declared.Made.TheVariants as made
 use Rattle.answers.specs.Made.{answered, answered-done}
 use Rattle.table.specs.Columns.{tags_of}
-use Rattle.table.specs.declared.Found.{Found}
-use Rattle.table.specs.declared.Found.TheVariants.{At, Nothing}
+use Rattle.table.specs.Found.{Found}
+use Rattle.table.specs.Found.{At, Nothing}
 use Rattle.entry.specs.Present.{Row}
 use Rattle.entry.specs.Record.{no_slot, SoundEntry, SoundRow, sound-entry}
 use Rattle.book.specs.Book.{Book, Sound, judge}
@@ -136,20 +135,20 @@ sheet-tells xs ys tags o p e f q =
 
 -- ---- what the length is for: that much room suffices, and a refusal is the export's own
 
-pub length-suffices : (xs tags d : List ℕ) (n : ℕ) → length_answer xs tags ≡ made.Done n → n ≤ length d
-    → export_answer xs tags d ≡ made.Done n
+pub length-suffices : (xs tags d : List ℕ) (n : ℕ) → length_answer xs tags ≡ Ok n → n ≤ length d
+    → export_answer xs tags d ≡ Ok n
 unfolding length_answer export_answer export_at
 length-suffices xs tags d n e h =
     let a = answered-done (sheet_at xs tags) (length (sheet_in xs tags)) n e in
     rw (a.0, a.1, le-leb n (length d) h)
 
-pub length-refuses : (xs tags d : List ℕ) (r : Refusal) → length_answer xs tags ≡ made.Refused r
-    → export_answer xs tags d ≡ made.Refused r
+pub length-refuses : (xs tags d : List ℕ) (r : Refusal) → length_answer xs tags ≡ Err r
+    → export_answer xs tags d ≡ Err r
 unfolding length_answer export_answer export_at
 length-refuses xs tags d r e = go (sheet_at xs tags) e
   where
-    go : (v : Verdict) → answered v (length (sheet_in xs tags)) ≡ made.Refused r
+    go : (v : Verdict) → answered v (length (sheet_in xs tags)) ≡ Err r
         → answered (v then need (leb (length (sheet_in xs tags)) (length d)) no_room 0) (length (sheet_in xs tags))
-        ≡ made.Refused r
-    go clear q = let z : ◌≡◌ {A = ℕ} 0 1 = cc in absurd (omega arith)
+        ≡ Err r
+    go (Ok _) q = let z : ◌≡◌ {A = ℕ} 0 1 = cc in absurd (omega arith)
     go (Refused s) q = q

@@ -1,17 +1,20 @@
 -- The ways of the code that judges a choice of tags and finds their columns, on plain values.
-use Rattle.std.specs.Prelude.{ℕ, suc, ◌+◌, ◌-◌, ◌%◌, ◌≤◌, ◌<◌, ◌≡◌, refl, Bool, true, false, not, List, [], ◌∷◌, ◌++◌, length, take, drop, get_or, set, replicate}
-use Rattle.std.proofs.Common.{arith, add-one, sym, ap, ◌∙◌, drop_of_length-le, take-suc, take_all, length-take-le}
+use Rattle.std.specs.Prelude.{ℕ, suc, ◌+◌, ◌-◌, ◌≤◌, ◌<◌, ◌≡◌, refl, Bool, true, false, cond, not, List, [], ◌∷◌, ◌++◌, length, take, drop, get_or, set, replicate}
+use Rattle.std.specs.List.{list_all}
+use Rattle.std.specs.Option.{is_some, unwrap_or}
+use Rattle.std.proofs.Common.{arith, add-one, sym, ap, ◌∙◌, ◌&&◌, drop_of_length-le, take-suc, take_all, length-take-le}
 use Rattle.std.proofs.lemmas.List.{set_at}
 use Rattle.std.proofs.Math.Seq.{append_snoc}
 use borrow.Author.Tests.{le-leb, lt-leb, not-true, not-false}
 use Rattle.octets.specs.Octets.{drop-next}
 use Rattle.answers.specs.Numbers.{out_of_turn, breaks_form}
-use Rattle.answers.specs.declared.Verdict.{Verdict}
-use Rattle.answers.specs.declared.Verdict.TheVariants.{Clear as clear}
-use Rattle.answers.specs.Verdict.{refused, ◌then◌}
+use Rattle.answers.specs.Verdict.{Verdict}
+use Rattle.answers.specs.Verdict.{clear}
+use Rattle.answers.specs.Verdict.{refused}
+use Rattle.table.specs.Found.{is_found, column_of}
 use Rattle.table.specs.Repeat.{repeat_of}
-use Rattle.table.specs.declared.Found.{Found}
-use Rattle.table.specs.declared.Found.TheVariants.{At, Nothing}
+use Rattle.table.specs.Found.{Found}
+use Rattle.table.specs.Found.{At, Nothing}
 use Rattle.lookup.specs.Look.{column_in}
 use Rattle.sheet.specs.Field.{all_exported}
 use Rattle.exporting.specs.Export.{all_known, choice_at}
@@ -32,6 +35,21 @@ module _ (cols tags : List ℕ) (i : ℕ) (inv : all_known cols (drop i tags) �
   known-all h = rw (drop_of_length-le tags {i = i} h) at inv
 
 pub ruleset known_cases = (known_next, known-not, known-all)
+
+-- each tag by the same test
+pub known_each : (cols tags : List ℕ) → all_known cols tags ≡ list_all (λ t. is_found (column_in t cols)) tags
+unfolding all_known
+known_each cols [] = refl
+known_each cols (t ∷ tags) =
+    go (is_found (column_in t cols)) ∙ ap (λ b. is_found (column_in t cols) && b) (known_each cols tags)
+  where
+    go : (b : Bool) → cond b (all_known cols tags) false ≡ (b && all_known cols tags)
+    go true = refl
+    go false = refl
+
+pub some-found : (f : Found) → is_some f ≡ is_found f
+some-found (At c) = refl
+some-found Nothing = refl
 
 module _ (cols tags : List ℕ) (a : Bool) (ae : a ≡ all_known cols tags) where
   pub choice-unknown : (v : Verdict) → not a ≡ true → v ≡ refused out_of_turn 0 → v ≡ choice_at cols tags
@@ -54,21 +72,24 @@ module _ (cols tags : List ℕ) (a : Bool) (ae : a ≡ all_known cols tags) wher
         choice-many v h q =
             rw (← ae, not-false a az, ← be, not-false b bz, le-leb 1 (length tags) some, lt-leb (length tags) 16 h) q
 
-        module _ (few : length tags ≤ 16) (f : Found) (fe : f ≡ repeat_of tags) where
-          pub choice-twice : (v : Verdict) (i : ℕ) → f ≡ At i → v ≡ refused breaks_form 0 → v ≡ choice_at cols tags
+        module _ (few : length tags ≤ 16) (f : Found) (fe : f ≡ repeat_of tags) (s : Bool) (se : s ≡ is_some f) where
+          there : is_found (repeat_of tags) ≡ s
+          there = ap is_found (sym fe) ∙ sym (some-found f) ∙ sym se
+
+          pub choice-twice : (v : Verdict) → s ≡ true → v ≡ refused breaks_form 0 → v ≡ choice_at cols tags
           unfolding choice_at
-          choice-twice v i z q = rw (
+          choice-twice v z q = rw (
             ← ae,
             not-false a az,
             ← be,
             not-false b bz,
             le-leb 1 (length tags) some,
             le-leb (length tags) 16 few,
-            ← fe,
+            there,
             z,
           ) q
 
-          pub choice-good : f ≡ Nothing → clear ≡ choice_at cols tags
+          pub choice-good : s ≡ false → clear ≡ choice_at cols tags
           unfolding choice_at
           choice-good z =
               rw (
@@ -78,19 +99,20 @@ module _ (cols tags : List ℕ) (a : Bool) (ae : a ≡ all_known cols tags) wher
                 not-false b bz,
                 le-leb 1 (length tags) some,
                 le-leb (length tags) 16 few,
-                ← fe,
+                there,
                 z,
               )
 
 pub ruleset choice_cases = (choice-unknown, choice-type, choice-none, choice-many, choice-twice, choice-good)
 
-pub place_at : (cols : List ℕ) (tag : ℕ) (r : Found) (c : ℕ) → r ≡ column_in tag cols → r ≡ At c → c ≡ place_of cols tag
+pub place-found : (cols : List ℕ) (tag : ℕ) (r : Found) (p : ℕ) → r ≡ column_in tag cols → p ≡ unwrap_or r 0
+    → p ≡ place_of cols tag
 unfolding place_of
-place_at cols tag r c e z = rw (← e, z)
-
-pub place_none : (cols : List ℕ) (tag : ℕ) (r : Found) → r ≡ column_in tag cols → r ≡ Nothing → 0 ≡ place_of cols tag
-unfolding place_of
-place_none cols tag r e z = rw (← e, z)
+place-found cols tag r p e z = rw (z, ← e) (same r)
+  where
+    same : (r : Found) → unwrap_or r 0 ≡ column_of r
+    same (At c) = refl
+    same Nothing = refl
 
 -- ---- the columns, one by one
 

@@ -3,9 +3,9 @@
 use Rattle.std.specs.Prelude.{ℕ, Bool, true, false, cond, not, List, [], ◌∷◌, leb, length}
 use Rattle.octets.specs.Splice.{stored}
 use Rattle.answers.specs.Numbers.{out_of_turn, no_room, breaks_form}
-use Rattle.answers.specs.declared.Verdict.{Verdict}
+use Rattle.answers.specs.Verdict.{Verdict}
 use Rattle.answers.specs.Verdict.{◌then◌, need, kept}
-use Rattle.answers.specs.declared.Made.{Made}
+use Rattle.answers.specs.Made.{Made}
 use Rattle.answers.specs.Made.{answered}
 use Rattle.table.specs.Columns.{tags_of}
 use Rattle.table.specs.Found.{is_found}

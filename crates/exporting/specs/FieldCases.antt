@@ -1,7 +1,9 @@
 -- The ways of the code that measures and writes a field, on plain values.
 use Rattle.std.specs.Prelude.{ℕ, zero, suc, ◌+◌, ◌-◌, ◌*◌, ◌/◌, ◌%◌, ◌^◌, ◌≤◌, ◌<◌, ◌≡◌, refl, Bool, true, false, cond, List, [], ◌∷◌, ◌++◌, eqb, length, drop, get_or, set}
+use Rattle.std.specs.List.{list_any, count_by}
+use Rattle.std.proofs.lemmas.List.Sums.{sum_by-cons}
 use native.Mathlib.Omega.{arith}
-use Rattle.std.proofs.Common.{mod-lt, pow-suc, add-one, ap, ◌∙◌, length-append, drop_of_length-le, Fits, lt-ltb, le-ltb, eq-eqb, ne_eqb}
+use Rattle.std.proofs.Common.{mod-lt, pow-suc, add-one, ap, ◌∙◌, ◌||◌, length-append, drop_of_length-le, Fits, lt-ltb, le-ltb, eq-eqb, ne_eqb}
 use Rattle.std.proofs.Math.Path.{sym}
 use Rattle.std.proofs.Math.ListN.{length-set}
 use Rattle.std.specs.Int.{w64}
@@ -72,6 +74,10 @@ module _ (n k least : ℕ) (inv : least ≡ 10 ^ k) where
       let e : suc (k - 1) ≡ k = omega arith in
       sym (places-between (k - 1) n h (rw (e, ← inv) l) ∙ e)
 
+-- by the logarithm of base ten
+pub places_log : (n k : ℕ) → 10 ^ k ≤ n → n < 10 * 10 ^ k → k + 1 ≡ places_of n
+places_log n k h l = let p = pow-suc 10 k in add-one k ∙ sym (places-between k n h (omega arith))
+
 pub ruleset place_cases = (places-one, places-start, places-more-than, places-step, places-end)
 
 -- ---- marks
@@ -91,6 +97,16 @@ module _ (s : List ℕ) (i : ℕ) (inv : marked (drop i s) ≡ marked s) where
   marks-none h = rw (drop_of_length-le s {i = i} h) at inv
 
 pub ruleset marks_cases = (marks-here, marks-next, marks-none)
+
+-- each octet by the same test
+pub marks_each : (s : List ℕ) → marked s ≡ list_any is_mark s
+unfolding marked
+marks_each [] = refl
+marks_each (x ∷ s) = go (is_mark x) ∙ ap (λ b. is_mark x || b) (marks_each s)
+  where
+    go : (b : Bool) → cond b true (marked s) ≡ (b || marked s)
+    go true = refl
+    go false = refl
 
 -- ---- doubled quotes
 
@@ -119,6 +135,20 @@ module _ (s : List ℕ) (i k : ℕ) (inv : k + length (doubled (drop i s)) ≡ l
 
   pub doubled-size-end : length s ≤ i → k ≡ length (doubled s)
   doubled-size-end h = let z = ap length (doubled-last s i h) in omega arith
+
+-- an octet more for each quote
+pub doubled_count : (s : List ℕ) → length (doubled s) ≡ length s + count_by (λ x. eqb x 34) s
+unfolding doubled
+doubled_count [] = refl
+doubled_count (x ∷ s) =
+    let z = sum_by-cons (λ y. cond (eqb y 34) 1 0) x s in
+    go (eqb x 34) (doubled_count s) ∙ ap (λ n. suc (length s) + n) (sym z)
+  where
+    go : (b : Bool) → length (doubled s) ≡ length s + count_by (λ y. eqb y 34) s
+        → length (cond b (34 ∷ 34 ∷ []) (x ∷ []) ++ doubled s)
+        ≡ suc (length s) + (cond b 1 0 + count_by (λ y. eqb y 34) s)
+    go true e = omega arith
+    go false e = omega arith
 
 pub ruleset doubled_sizes = (twice_two, twice-one, doubled-size-step, doubled-size-end)
 

@@ -5,9 +5,9 @@ use Rattle.std.proofs.Math.Option.{Option, none, some}
 use Rattle.octets.specs.Splice.{stored}
 use Rattle.octets.specs.Word.{word_of}
 use Rattle.answers.specs.Numbers.{no_room}
-use Rattle.answers.specs.declared.Verdict.{Verdict}
+use Rattle.answers.specs.Verdict.{Verdict}
 use Rattle.answers.specs.Verdict.{◌then◌, need, kept}
-use Rattle.answers.specs.declared.Made.{Made}
+use Rattle.answers.specs.Made.{Made}
 use Rattle.answers.specs.Made.{answered}
 use Rattle.table.specs.Found.{column_of}
 use Rattle.table.specs.declared.Columns.{Columns}

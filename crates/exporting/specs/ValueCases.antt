@@ -1,10 +1,10 @@
 -- The ways of the code that measures and writes the field of a value, on plain values.
-use Rattle.std.specs.Prelude.{ℕ, ◌+◌, ◌-◌, ◌*◌, ◌/◌, ◌%◌, ◌^◌, ◌≤◌, ◌<◌, ◌≡◌, refl, Bool, true, false, cond, List, [], ◌∷◌, ◌++◌, eqb, length, take, get_or, set}
-use Rattle.std.proofs.Common.{arith, add-zero, sym, ◌∙◌, lt-ltb, le-ltb, ne_eqb}
+use Rattle.std.specs.Prelude.{ℕ, ◌+◌, ◌-◌, ◌^◌, ◌≤◌, ◌<◌, ◌≡◌, refl, Bool, true, false, cond, List, [], ◌∷◌, eqb, length, take, get_or, set}
+use Rattle.std.proofs.Common.{arith, add-zero, sym, lt-ltb, le-ltb, ne_eqb}
 use Rattle.std.proofs.Math.Nat.{sub-zero}
 use Rattle.octets.specs.Splice.{splice, splice-nil}
-use Rattle.whole.specs.declared.Number.{Number}
-use Rattle.whole.specs.declared.Number.TheVariants.{Is, Broken}
+use Rattle.whole.specs.Number.{Number}
+use Rattle.whole.specs.Number.{Some, Broken}
 use Rattle.whole.specs.Number.{number_of}
 use Rattle.sheet.specs.Digits.{digits_of, places_of, decimal, places-some, decimal-long}
 use Rattle.sheet.specs.Field.{is_mark, marked, spelt, whole_in, content_of}
@@ -39,7 +39,7 @@ field-string code v e f h = rw (le-ltb (length v) 1 h, ne_eqb code 3 e, ne_eqb c
 
 -- ---- the number that a value says
 
-pub number-says : (r : Number) (v : List ℕ) (n w : ℕ) → r ≡ Is n w → r ≡ number_of v → n ≡ whole_in v
+pub number-says : (r : Number) (v : List ℕ) (n w : ℕ) → r ≡ Some (n, w) → r ≡ number_of v → n ≡ whole_in v
 number-says r v n w e q = rw (← q, e)
 
 pub number-none : (r : Number) (v : List ℕ) → r ≡ Broken → r ≡ number_of v → 0 ≡ whole_in v

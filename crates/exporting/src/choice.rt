@@ -6,20 +6,13 @@ ghost use Rattle.exporting.specs.Steps.{place_of, places_for};
 
 use answers::{Verdict, refuse};
 use sheet::{MOST_CHOSEN, all_exported};
-use table::Found;
 
 // Whether each tag is a column's.
 fn all_known(cols: &[u32], tags: &[u32]) -> bool
     ensures { result ≡ all_known cols.now tags.now }
 {
-    let mut i = 0;
-    while i < tags.len() {
-        let Found::At(_) = lookup::find_column(cols, tags[i]) else {
-            return false;
-        };
-        i += 1;
-    }
-    true
+    tags.iter()
+        .all(|tag| lookup::find_column(cols, *tag).is_some())
 }
 
 pub fn judge_choice(cols: &[u32], tags: &[u32]) -> Verdict
@@ -37,31 +30,27 @@ pub fn judge_choice(cols: &[u32], tags: &[u32]) -> Verdict
     if MOST_CHOSEN < tags.len() {
         return refuse(answers::BREAKS_FORM, 0);
     }
-    let Found::Nothing = table::first_repeat(tags) else {
+    if table::first_repeat(tags).is_some() {
         return refuse(answers::BREAKS_FORM, 0);
-    };
-    Verdict::Clear
+    }
+    Ok(())
 }
 
 fn place_of(cols: &[u32], tag: u32) -> usize
     ensures { result ≡ place_of cols.now tag }
 {
-    match lookup::find_column(cols, tag) {
-        Found::At(c) => c,
-        Found::Nothing => 0,
-    }
+    lookup::find_column(cols, tag).unwrap_or(0)
 }
 
 // The column of each tag.
+#[tactic(auto, using(crate::specs::ChoiceCases::places_cases))]
 pub fn find_places(cols: &[u32], tags: &[u32]) -> [usize; MOST_CHOSEN]
     requires { length tags.now ≤ most_chosen }
     ensures { result ≡ places_for cols.now tags.now }
 {
     let mut places = [0usize; MOST_CHOSEN];
-    let mut i = 0;
-    while i < tags.len() {
-        places[i] = place_of(cols, tags[i]);
-        i += 1;
+    for (i, tag) in tags.iter().enumerate() {
+        places[i] = place_of(cols, *tag);
     }
     places
 }

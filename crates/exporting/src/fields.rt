@@ -8,15 +8,14 @@ ghost use Rattle.exporting.specs.Steps.{field_for};
 use crate::digits::{places, put_digits};
 use crate::strings::{put_string, string_size};
 use sheet::{NUMBERS, TRUTHS};
-use whole::Number;
 
 // The number that a value says, 0 where it says none.
 fn number_in(v: &[u8]) -> u32
     ensures { result ≡ whole_in v.now }
 {
     match whole::read_number(v) {
-        Number::Is(n, _) => n,
-        Number::Broken => 0,
+        Some((n, _)) => n,
+        None => 0,
     }
 }
 

@@ -1,5 +1,5 @@
 // Lines of a sheet, measured and written: the first line, then one for each record, by the record's edges.
-ghost use Rattle.std.specs.Prelude.{◌≡◌, cond, ◌+◌, ◌*◌, ◌^◌, ◌≤◌, ◌<◌, ltb, length, get_or, replicate};
+ghost use Rattle.std.specs.Prelude.{◌≡◌, cond, ◌+◌, ◌*◌, ◌^◌, ◌≤◌, ◌<◌, ltb, length, get_or, take, replicate};
 ghost use Rattle.octets.specs.Splice.{splice};
 ghost use Rattle.answers.specs.Numbers.{most_records};
 ghost use Rattle.edges.specs.Edges.{most_edges};
@@ -7,6 +7,7 @@ ghost use Rattle.sheet.specs.Field.{most_chosen, comma, cr, tag_field, tag_field
 ghost use Rattle.exporting.specs.Steps.{field_at, ended, line_by, lines_by};
 
 use crate::fields::{field_size, put_field, put_tag};
+use book::Judgement;
 use edges::MOST_EDGES;
 use octets::word32;
 use sheet::{COMMA, CR, LF};
@@ -14,7 +15,7 @@ use sheet::{COMMA, CR, LF};
 fn place(s: &[usize], i: usize) -> usize
     ensures { result ≡ get_or s.now i 0 }
 {
-    if i < s.len() { s[i] } else { 0 }
+    s.get(i).copied().unwrap_or(0)
 }
 
 // What stands behind field i of n.
@@ -22,10 +23,7 @@ fn end_of(i: usize, n: usize) -> u8
     requires { i + 1 < 2 ^ 64 }
     ensures { result ≡ cond (ltb (i + 1) n) comma cr }
 {
-    if i + 1 < n {
-        return COMMA;
-    }
-    CR
+    if i + 1 < n { COMMA } else { CR }
 }
 
 // ---- measured
@@ -38,43 +36,35 @@ fn chosen_size(book: &[u8], edges: &[usize], tag: u32, c: usize) -> usize
     field_size(tag % 65536, edges::cell(book, edges, c))
 }
 
+#[tactic(auto, using(crate::specs::LineCases::line_sizes, crate::specs::LineCases::fields_are))]
 fn line_size(book: &[u8], edges: &[usize], tags: &[u32], places: &[usize]) -> usize
     requires { (length book.now < 2 ^ 32) × (length tags.now ≤ most_chosen) }
     ensures { (result ≡ length (line_by book.now edges.now tags.now
         places.now)) × (result < 2 ^ 40) }
 {
     let mut k = 1;
-    let mut i = 0;
-    while i < tags.len() {
-        k += chosen_size(book, edges, tags[i], place(places, i)) + 1;
-        i += 1;
+    for (i, tag) in tags.iter().enumerate() {
+        k += chosen_size(book, edges, *tag, place(places, i)) + 1;
     }
     k
 }
 
-// The lines of `count` records from `first` on.
-pub fn lines_size(
-    book: &[u8],
-    first: usize,
-    count: usize,
-    forms: &[u8],
-    tags: &[u32],
-    places: &[usize],
-) -> usize
-    requires { (length book.now < 2 ^ 32) × (length tags.now ≤ most_chosen) × (first < 2 ^ 32)
-        × (count ≤ most_records) }
-    ensures { (result ≡ length (lines_by book.now forms.now tags.now
-        places.now count first (replicate most_edges 0))) × (result < 2 ^ 56) }
+// The lines of a good book's address records.
+#[tactic(auto, using(crate::specs::RecordCases::lines_sizes))]
+pub fn lines_size(book: &[u8], j: &Judgement, tags: &[u32], places: &[usize]) -> usize
+    requires { (length book.now < 2 ^ 32) × (length tags.now ≤ most_chosen) × (j.now.first < 2 ^ 32)
+        × (j.now.count ≤ most_records) }
+    ensures { (result ≡ length (lines_by book.now (take j.now.address.count j.now.address.forms) tags.now
+        places.now j.now.count j.now.first (replicate most_edges 0))) × (result < 2 ^ 56) }
 {
+    let forms = j.address.forms();
     let mut edges = [0usize; MOST_EDGES];
     let mut k = 0;
-    let mut left = count;
-    let mut i = first;
-    while 0 < left {
+    let mut i = j.first;
+    for _ in 0..j.count {
         edges::put_edges(book, i, forms, &mut edges);
         k += line_size(book, &edges, tags, places);
         i += word32(book, i) as usize;
-        left -= 1;
     }
     k
 }
@@ -112,6 +102,7 @@ fn put_ended(
     k + 1
 }
 
+#[tactic(auto, using(crate::specs::LineCases::line_cases, crate::specs::LineCases::fields_are))]
 fn put_line(
     out: &mut [u8],
     at: usize,
@@ -127,10 +118,8 @@ fn put_line(
         tags.now places.now)) }
 {
     let mut k = at;
-    let mut i = 0;
-    while i < tags.len() {
+    for i in 0..tags.len() {
         k = put_ended(out, k, book, edges, tags, places, i);
-        i += 1;
     }
     out[k] = LF;
     k + 1
@@ -150,47 +139,44 @@ fn put_tag_ended(out: &mut [u8], at: usize, tags: &[u32], i: usize) -> usize
 }
 
 // The first line; where it ends.
+#[tactic(auto, using(crate::specs::LineCases::line_cases, crate::specs::LineCases::tags_are))]
 pub fn put_tags(out: &mut [u8], at: usize, tags: &[u32]) -> usize
     requires { at + length (line_of (tag_fields tags.now)) ≤ length out.old }
     ensures { (result ≡ at + length (line_of (tag_fields tags.now)))
         × (out.new ≡ splice out.old at (line_of (tag_fields tags.now))) }
 {
     let mut k = at;
-    let mut i = 0;
-    while i < tags.len() {
+    for i in 0..tags.len() {
         k = put_tag_ended(out, k, tags, i);
-        i += 1;
     }
     out[k] = LF;
     k + 1
 }
 
-// The lines of `count` records from `first` on.
+// The lines of a good book's address records, from `to` on.
+#[tactic(auto, using(crate::specs::RecordCases::lines_cases))]
 pub fn put_lines(
     out: &mut [u8],
     to: usize,
     book: &[u8],
-    first: usize,
-    count: usize,
-    forms: &[u8],
+    j: &Judgement,
     tags: &[u32],
     places: &[usize],
 )
-    requires { (first < 2 ^ 32) × (count ≤ most_records)
-        × (to + length (lines_by book.now forms.now tags.now places.now count first (replicate most_edges 0))
-        ≤ length out.old) }
+    requires { (j.now.first < 2 ^ 32) × (j.now.count ≤ most_records)
+        × (to + length (lines_by book.now (take j.now.address.count j.now.address.forms) tags.now places.now
+        j.now.count j.now.first (replicate most_edges 0)) ≤ length out.old) }
     ensures { out.new ≡ splice out.old to
-        (lines_by book.now forms.now tags.now places.now count first
-        (replicate most_edges 0)) }
+        (lines_by book.now (take j.now.address.count j.now.address.forms) tags.now places.now
+        j.now.count j.now.first (replicate most_edges 0)) }
 {
+    let forms = j.address.forms();
     let mut edges = [0usize; MOST_EDGES];
     let mut k = to;
-    let mut left = count;
-    let mut i = first;
-    while 0 < left {
+    let mut i = j.first;
+    for _ in 0..j.count {
         edges::put_edges(book, i, forms, &mut edges);
         k = put_line(out, k, book, &edges, tags, places);
         i += word32(book, i) as usize;
-        left -= 1;
     }
 }

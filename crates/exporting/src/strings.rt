@@ -9,37 +9,16 @@ use sheet::{QUOTE, is_mark};
 fn has_mark(s: &[u8]) -> bool
     ensures { result ≡ marked s.now }
 {
-    let mut i = 0;
-    while i < s.len() {
-        if is_mark(s[i]) {
-            return true;
-        }
-        i += 1;
-    }
-    false
-}
-
-fn twice_size(x: u8) -> usize
-    ensures { (result ≡ length (twice x)) × (result ≤ 2) }
-{
-    if x == QUOTE {
-        return 2;
-    }
-    1
+    s.iter().any(|x| is_mark(*x))
 }
 
 // The octets of `s` with each quote twice.
+#[tactic(auto, using(crate::specs::FieldCases::doubled_count))]
 fn doubled_size(s: &[u8]) -> usize
     requires { length s.now < 2 ^ 32 }
     ensures { (result ≡ length (doubled s.now)) × (result < 2 ^ 33) }
 {
-    let mut k = 0;
-    let mut i = 0;
-    while i < s.len() {
-        k += twice_size(s[i]);
-        i += 1;
-    }
-    k
+    s.len() + s.iter().filter(|x| **x == QUOTE).count()
 }
 
 pub fn string_size(s: &[u8]) -> usize
@@ -65,16 +44,15 @@ fn put_twice(out: &mut [u8], at: usize, x: u8) -> usize
     2
 }
 
+#[tactic(auto, using(crate::specs::FieldCases::doubled_cases))]
 fn put_doubled(out: &mut [u8], at: usize, s: &[u8]) -> usize
     requires { at + length (doubled s.now) ≤ length out.old }
     ensures { (result ≡ at + length (doubled s.now))
         × (out.new ≡ splice out.old at (doubled s.now)) }
 {
     let mut k = at;
-    let mut i = 0;
-    while i < s.len() {
-        k += put_twice(out, k, s[i]);
-        i += 1;
+    for x in s {
+        k += put_twice(out, k, *x);
     }
     k
 }

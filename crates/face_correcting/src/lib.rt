@@ -10,7 +10,7 @@ ghost use Rattle.correcting.specs.Correct.{delete_octets};
 ghost use Rattle.face_reading.specs.Lent.{made_number, made_numbers};
 ghost use Rattle.face_reading.specs.Looking.{which_of};
 
-use face_reading::{made_number, made_numbers, which_of};
+use face_reading::{answer_number, made_numbers, which_of};
 
 pub fn wt_set(
     buf: &mut [u8],
@@ -29,7 +29,7 @@ pub fn wt_set(
     let which = which_of(number);
     let corrected = correcting::set(buf, len as usize, which, tag, value);
     *out = made_numbers(corrected);
-    made_number(corrected)
+    answer_number(corrected)
 }
 
 pub fn wt_clear(buf: &mut [u8], len: u64, number: u64, tag: u32, out: &mut [u64; 2]) -> u32
@@ -40,7 +40,7 @@ pub fn wt_clear(buf: &mut [u8], len: u64, number: u64, tag: u32, out: &mut [u64;
     let which = which_of(number);
     let corrected = correcting::clear(buf, len as usize, which, tag);
     *out = made_numbers(corrected);
-    made_number(corrected)
+    answer_number(corrected)
 }
 
 // A record before record k.
@@ -51,7 +51,7 @@ pub fn wt_insert(buf: &mut [u8], len: u64, k: u64, offered: &[u8], out: &mut [u6
 {
     let corrected = inserting::insert(buf, len as usize, k as usize, offered);
     *out = made_numbers(corrected);
-    made_number(corrected)
+    answer_number(corrected)
 }
 
 pub fn wt_delete(buf: &mut [u8], len: u64, k: u64, out: &mut [u64; 2]) -> u32
@@ -61,5 +61,5 @@ pub fn wt_delete(buf: &mut [u8], len: u64, k: u64, out: &mut [u64; 2]) -> u32
 {
     let corrected = inserting::delete(buf, len as usize, k as usize);
     *out = made_numbers(corrected);
-    made_number(corrected)
+    answer_number(corrected)
 }

@@ -1,3 +1,2 @@
 pub mod Placing
-pub mod Cases
 pub mod Refused

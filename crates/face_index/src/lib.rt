@@ -8,8 +8,7 @@ ghost use Rattle.face_reading.specs.Looking.{looked_number, looked_numbers};
 ghost use Rattle.index.specs.Index.{make_answer, make_octets, entry_of, indexed_of};
 ghost use Rattle.face_index.specs.Placing.{placed_number, placed_numbers};
 
-use face_reading::{looked_number, looked_numbers, made_number, made_numbers};
-use lookup::Placed;
+use face_reading::{answer_number, looked_numbers, made_numbers};
 
 // Place, and the index's length.
 pub fn wt_index(book: &[u8], buf: &mut [u8], out: &mut [u64; 2]) -> u32
@@ -19,25 +18,7 @@ pub fn wt_index(book: &[u8], buf: &mut [u8], out: &mut [u64; 2]) -> u32
 {
     let made = index::make_index(book, buf);
     *out = made_numbers(made);
-    made_number(made)
-}
-
-fn placed_number(p: Placed) -> u32
-    ensures { result ≡ placed_number p }
-{
-    match p {
-        Placed::At(_) => 0,
-        Placed::Refused(r) => r.number,
-    }
-}
-
-fn placed_numbers(p: Placed) -> [u64; 2]
-    ensures { result ≡ placed_numbers p }
-{
-    match p {
-        Placed::At(start) => [0, start as u64],
-        Placed::Refused(r) => [r.place as u64, 0],
-    }
+    answer_number(made)
 }
 
 // Place, and where address record k starts.
@@ -46,8 +27,8 @@ pub fn wt_index_entry(book: &[u8], index: &[u8], k: u64, out: &mut [u64; 2]) -> 
         × (out.new ≡ placed_numbers (entry_of book.now index.now k)) }
 {
     let placed = index::entry_at(book, index, k as usize);
-    *out = placed_numbers(placed);
-    placed_number(placed)
+    *out = made_numbers(placed);
+    answer_number(placed)
 }
 
 // Place, whether there is a value, and where its encoding starts and ends.
@@ -57,5 +38,5 @@ pub fn wt_lookup_indexed(book: &[u8], index: &[u8], k: u64, tag: u32, out: &mut 
 {
     let looked = index::lookup_indexed(book, index, k as usize, tag);
     *out = looked_numbers(looked);
-    looked_number(looked)
+    answer_number(looked)
 }

@@ -2,60 +2,38 @@
 ghost use Rattle.std.specs.Prelude.{◌≡◌};
 ghost use Rattle.serial.specs.Serial.{serial_of};
 ghost use Rattle.book.specs.Judged.{judged_of};
-ghost use Rattle.face_reading.specs.Judging.{judged_number, judged_by, judged_numbers, table_of, columns_numbers};
-ghost use Rattle.face_reading.specs.Judging.{columns_left};
+ghost use Rattle.face_reading.specs.Judging.{judged_number, judged_numbers, table_of, columns_numbers, columns_left};
 
-use answers::MOST_COLUMNS;
-use book::{Judged, Judgement};
+use crate::lent::answer_number;
+use answers::{Answer, MOST_COLUMNS};
+use book::Judgement;
 use table::Columns;
 
-fn judged_number(judged: Judged) -> u32
-    ensures { result ≡ judged_number judged }
+fn judged_numbers(judged: Answer<Judgement>) -> [u64; 7]
+    ensures { result ≡ judged_numbers judged }
 {
     match judged {
-        Judged::Good {
-            length: _,
-            count: _,
-            header: _,
-            first: _,
-        } => 0,
-        Judged::Refused(r) => r.number,
-    }
-}
-
-fn judged_numbers(judged: Judged, heads: usize, cols: usize) -> [u64; 7]
-    ensures { result ≡ judged_by judged heads cols }
-{
-    match judged {
-        Judged::Good {
-            length,
-            count,
-            header,
-            first,
-        } => [
+        Ok(j) => [
             0,
-            length as u64,
-            count as u64,
-            header as u64,
-            first as u64,
-            heads as u64,
-            cols as u64,
+            j.length as u64,
+            j.count as u64,
+            j.head as u64,
+            j.first as u64,
+            j.header.count as u64,
+            j.address.count as u64,
         ],
-        Judged::Refused(r) => [r.place as u64, 0, 0, 0, 0, 0, 0],
+        Err(r) => [r.place as u64, 0, 0, 0, 0, 0, 0],
     }
 }
 
 // Place, length, count, the places of the header record and of the first address record, the columns of each table.
 pub fn wt_judge(book: &[u8], out: &mut [u64; 7]) -> u32
-    ensures { (result ≡ judged_number (judged_of book.now).judged)
+    ensures { (result ≡ judged_number (judged_of book.now))
         × (out.new ≡ judged_numbers (judged_of book.now)) }
 {
-    let j = book::judge(book);
-    let judged = j.judged;
-    let header = j.header;
-    let address = j.address;
-    *out = judged_numbers(judged, header.count, address.count);
-    judged_number(judged)
+    let judged = book::judge(book);
+    *out = judged_numbers(judged);
+    answer_number(judged)
 }
 
 // ---- the columns of a table
@@ -78,23 +56,13 @@ pub fn wt_columns(
     flags: &mut [u32; MOST_COLUMNS],
     out: &mut [u64; 2],
 ) -> u32
-    ensures { (result ≡ judged_number (judged_of book.now).judged)
-        × (tags.new ≡ columns_left (judged_of book.now).judged tags.old
-        (table_of (judged_of book.now) address).tags)
-        × (flags.new ≡ columns_left (judged_of book.now).judged flags.old
-        (table_of (judged_of book.now) address).flags)
-        × (out.new ≡ columns_numbers (judged_of book.now).judged
-        (table_of (judged_of book.now) address).count) }
+    ensures { (result ≡ judged_number (judged_of book.now))
+        × (tags.new ≡ columns_left (judged_of book.now) (λ j. (table_of j address).tags) tags.old)
+        × (flags.new ≡ columns_left (judged_of book.now) (λ j. (table_of j address).flags) flags.old)
+        × (out.new ≡ columns_numbers (judged_of book.now) address) }
 {
-    let j = book::judge(book);
-    let judged = j.judged;
-    match judged {
-        Judged::Good {
-            length: _,
-            count: _,
-            header: _,
-            first: _,
-        } => {
+    match book::judge(book) {
+        Ok(j) => {
             let t = table_of(j, address);
             let every_tag = t.tags;
             let every_flag = t.flags;
@@ -103,7 +71,7 @@ pub fn wt_columns(
             *out = [0, t.count as u64];
             0
         }
-        Judged::Refused(r) => {
+        Err(r) => {
             *out = [r.place as u64, 0];
             r.number
         }

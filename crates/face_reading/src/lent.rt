@@ -1,23 +1,23 @@
-// What calls that make something have to say: 0 or the number of the refusal; place and length.
+// What calls have to say to C: 0 or the number of the refusal; and, of calls that make something, place and length.
 ghost use Rattle.std.specs.Prelude.{◌≡◌};
-ghost use Rattle.face_reading.specs.Lent.{made_number, made_numbers};
+ghost use Rattle.face_reading.specs.Lent.{answer_number, made_numbers};
 
-use answers::Made;
+use answers::Answer;
 
-pub fn made_number(made: Made) -> u32
-    ensures { result ≡ made_number made }
+pub fn answer_number<T: Copy>(answer: Answer<T>) -> u32
+    ensures { result ≡ answer_number answer }
 {
-    match made {
-        Made::Done(_) => 0,
-        Made::Refused(r) => r.number,
+    match answer {
+        Ok(_) => 0,
+        Err(r) => r.number,
     }
 }
 
-pub fn made_numbers(made: Made) -> [u64; 2]
+pub fn made_numbers(made: Answer<usize>) -> [u64; 2]
     ensures { result ≡ made_numbers made }
 {
     match made {
-        Made::Done(length) => [0, length as u64],
-        Made::Refused(r) => [r.place as u64, 0],
+        Ok(length) => [0, length as u64],
+        Err(r) => [r.place as u64, 0],
     }
 }

@@ -9,6 +9,6 @@ mod looking;
 mod version;
 
 pub use judging::{wt_columns, wt_judge, wt_serial};
-pub use lent::{made_number, made_numbers};
-pub use looking::{looked_number, looked_numbers, which_of, wt_lookup};
+pub use lent::{answer_number, made_numbers};
+pub use looking::{looked_numbers, which_of, wt_lookup};
 pub use version::wt_version;

@@ -3,6 +3,7 @@ ghost use Rattle.std.specs.Prelude.{◌≡◌};
 ghost use Rattle.lookup.specs.Look.{lookup_of};
 ghost use Rattle.face_reading.specs.Looking.{which_of, looked_number, looked_numbers};
 
+use crate::lent::answer_number;
 use lookup::{Looked, Which};
 
 // The record by its number from 0; the greatest number is the header record.
@@ -15,23 +16,15 @@ pub fn which_of(number: u64) -> Which
     Which::Number(number as usize)
 }
 
-pub fn looked_number(l: Looked) -> u32
-    ensures { result ≡ looked_number l }
-{
-    match l {
-        Looked::At(_, _) => 0,
-        Looked::Absent => 0,
-        Looked::Refused(r) => r.number,
-    }
-}
-
 pub fn looked_numbers(l: Looked) -> [u64; 4]
     ensures { result ≡ looked_numbers l }
 {
     match l {
-        Looked::At(start, end) => [0, 1, start as u64, end as u64],
-        Looked::Absent => [0, 0, 0, 0],
-        Looked::Refused(r) => [r.place as u64, 0, 0, 0],
+        Ok(value) => match value {
+            Some((start, end)) => [0, 1, start as u64, end as u64],
+            None => [0, 0, 0, 0],
+        },
+        Err(r) => [r.place as u64, 0, 0, 0],
     }
 }
 
@@ -43,5 +36,5 @@ pub fn wt_lookup(book: &[u8], number: u64, tag: u32, out: &mut [u64; 4]) -> u32
     let which = which_of(number);
     let l = lookup::lookup(book, which, tag);
     *out = looked_numbers(l);
-    looked_number(l)
+    answer_number(l)
 }

@@ -14,7 +14,7 @@ use answers::MOST_COLUMNS;
 // Place, length, count, the places of the header record and of the first address record, the columns of each table.
 #[unsafe(no_mangle)]
 pub extern "C" fn wt_judge(book: &[u8], out: &mut [u64; 7]) -> u32
-    ensures { (result ≡ judged_number (judged_of book.now).judged)
+    ensures { (result ≡ judged_number (judged_of book.now))
         × (out.new ≡ judged_numbers (judged_of book.now)) }
 {
     face_reading::wt_judge(book, out)
@@ -29,13 +29,10 @@ pub extern "C" fn wt_columns(
     flags: &mut [u32; MOST_COLUMNS],
     out: &mut [u64; 2],
 ) -> u32
-    ensures { (result ≡ judged_number (judged_of book.now).judged)
-        × (tags.new ≡ columns_left (judged_of book.now).judged tags.old
-        (table_of (judged_of book.now) address).tags)
-        × (flags.new ≡ columns_left (judged_of book.now).judged flags.old
-        (table_of (judged_of book.now) address).flags)
-        × (out.new ≡ columns_numbers (judged_of book.now).judged
-        (table_of (judged_of book.now) address).count) }
+    ensures { (result ≡ judged_number (judged_of book.now))
+        × (tags.new ≡ columns_left (judged_of book.now) (λ j. (table_of j address).tags) tags.old)
+        × (flags.new ≡ columns_left (judged_of book.now) (λ j. (table_of j address).flags) flags.old)
+        × (out.new ≡ columns_numbers (judged_of book.now) address) }
 {
     face_reading::wt_columns(book, address, tags, flags, out)
 }

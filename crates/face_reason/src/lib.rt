@@ -6,7 +6,8 @@ ghost use Rattle.face_reading.specs.Looking.{which_of};
 ghost use Rattle.reason.specs.Why.{why_of};
 ghost use Rattle.face_reason.specs.Reasons.{reason_number, reason_numbers};
 
-use face_reading::which_of;
+use answers::Answer;
+use face_reading::{answer_number, which_of};
 use reason::Reason;
 
 // The replies as the header file numbers them.
@@ -18,27 +19,17 @@ const LISTED: u64 = 3;
 
 const NOT_LISTED: u64 = 4;
 
-fn reason_number(r: Reason) -> u32
-    ensures { result ≡ reason_number r }
+fn reason_numbers(why: Answer<Reason>) -> [u64; 4]
+    ensures { result ≡ reason_numbers why }
 {
-    match r {
-        Reason::OtherType(_, _) => 0,
-        Reason::NoColumn => 0,
-        Reason::Listed(_) => 0,
-        Reason::NotListed(_) => 0,
-        Reason::Refused(s) => s.number,
-    }
-}
-
-fn reason_numbers(r: Reason) -> [u64; 4]
-    ensures { result ≡ reason_numbers r }
-{
-    match r {
-        Reason::OtherType(tag, row) => [0, OTHER_TYPE, row as u64, tag as u64],
-        Reason::NoColumn => [0, NO_COLUMN, 0, 0],
-        Reason::Listed(octet) => [0, LISTED, octet as u64, 0],
-        Reason::NotListed(octet) => [0, NOT_LISTED, octet as u64, 0],
-        Reason::Refused(s) => [s.place as u64, 0, 0, 0],
+    match why {
+        Ok(reason) => match reason {
+            Reason::OtherType(tag, row) => [0, OTHER_TYPE, row as u64, tag as u64],
+            Reason::NoColumn => [0, NO_COLUMN, 0, 0],
+            Reason::Listed(octet) => [0, LISTED, octet as u64, 0],
+            Reason::NotListed(octet) => [0, NOT_LISTED, octet as u64, 0],
+        },
+        Err(r) => [r.place as u64, 0, 0, 0],
     }
 }
 
@@ -49,5 +40,5 @@ pub fn wt_why(book: &[u8], number: u64, tag: u32, out: &mut [u64; 4]) -> u32
 {
     let why = reason::why(book, which_of(number), tag);
     *out = reason_numbers(why);
-    reason_number(why)
+    answer_number(why)
 }

@@ -7,7 +7,7 @@ ghost use Rattle.face_reading.specs.Lent.{made_number, made_numbers};
 ghost use Rattle.exporting.specs.Export.{length_answer, export_answer, export_octets};
 ghost use Rattle.importing.specs.From.{from_answer, from_octets};
 
-use face_reading::{made_number, made_numbers};
+use face_reading::{answer_number, made_numbers};
 
 // Place, and the sheet's length.
 pub fn wt_sheet_length(book: &[u8], tags: &[u32], out: &mut [u64; 2]) -> u32
@@ -16,7 +16,7 @@ pub fn wt_sheet_length(book: &[u8], tags: &[u32], out: &mut [u64; 2]) -> u32
 {
     let measured = exporting::sheet_length(book, tags);
     *out = made_numbers(measured);
-    made_number(measured)
+    answer_number(measured)
 }
 
 pub fn wt_sheet(book: &[u8], tags: &[u32], text: &mut [u8], out: &mut [u64; 2]) -> u32
@@ -26,7 +26,7 @@ pub fn wt_sheet(book: &[u8], tags: &[u32], text: &mut [u8], out: &mut [u64; 2]) 
 {
     let made = exporting::export(book, tags, text);
     *out = made_numbers(made);
-    made_number(made)
+    answer_number(made)
 }
 
 // Place, and the book's length.
@@ -48,5 +48,5 @@ pub fn wt_from_sheet(
 {
     let written = importing::from_sheet(text, flags, htags, hflags, offered, book);
     *out = made_numbers(written);
-    made_number(written)
+    answer_number(written)
 }

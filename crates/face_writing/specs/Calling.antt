@@ -1,9 +1,8 @@
 -- A writing in progress as ten numbers: the refusal's place, then the nine fields of its state in their order.
-use Rattle.std.specs.Prelude.{ℕ, cond, List, [], ◌∷◌, ltb, get_or, set}
+use Rattle.std.specs.Prelude.{Ok, Err, ℕ, cond, List, [], ◌∷◌, ltb, get_or, set}
 use Rattle.writing.specs.declared.Writing.{Writing}
 use Rattle.writing.specs.declared.Outcome.{Outcome}
-use Rattle.writing.specs.declared.Written.{Written}
-use Rattle.writing.specs.declared.Written.TheVariants as written
+use Rattle.writing.specs.Written.{Written}
 
 -- form and stage are octets: where either is more no call but begin takes the state up
 unfoldable pub form_from : ℕ → ℕ
@@ -33,16 +32,16 @@ fields_of s =
 -- ---- a call on the numbers xs, whose outcome is o
 
 abbrev pub written_number : Written → ℕ
-written_number (written.Done n) = 0
-written_number (written.Refused r) = r.number
+written_number (Ok n) = 0
+written_number (Err r) = r.number
 
 unfoldable pub outcome_number : Outcome → ℕ
 outcome_number o = written_number o.answer
 
 -- a refusal changes the place alone
 abbrev pub left_by : Written → List ℕ → Writing → List ℕ
-left_by (written.Done n) xs st = fields_of st
-left_by (written.Refused r) xs st = set xs 0 r.place
+left_by (Ok n) xs st = fields_of st
+left_by (Err r) xs st = set xs 0 r.place
 
 unfoldable pub state_left : List ℕ → Outcome → List ℕ
 state_left xs o = left_by o.answer xs o.state

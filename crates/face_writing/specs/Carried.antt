@@ -1,10 +1,10 @@
 -- The ten numbers carry a writing from call to call: the next call takes up the state that a call left. Where the form
 -- or the stage is no octet, and behind the finish, every call but begin is out of turn.
-use Rattle.std.specs.Prelude.{ℕ, ◌≤◌, ◌<◌, ◌≡◌, refl, Bool, true, false, cond, List, [], ◌∷◌, eqb, ltb, length, get_or, set}
+use Rattle.std.specs.Prelude.{Ok, ℕ, ◌≤◌, ◌<◌, ◌≡◌, refl, Bool, true, false, cond, List, [], ◌∷◌, eqb, ltb, length, get_or, set}
 use Rattle.std.proofs.Common.{arith, lt-ltb, le-ltb, ne_eqb}
 use Rattle.answers.specs.Numbers.{out_of_turn}
-use Rattle.answers.specs.declared.Verdict.{Verdict}
-use Rattle.answers.specs.declared.Verdict.TheVariants.{Clear as clear, Refused}
+use Rattle.answers.specs.Verdict.{Verdict}
+use Rattle.answers.specs.Verdict.{Refused}
 use Rattle.writing.specs.declared.Writing.{Writing}
 use Rattle.writing.specs.declared.Outcome.{Outcome}
 use Rattle.writing.specs.State.{settled, refused_with, sane_of, idle_of, within_of}
@@ -28,7 +28,7 @@ back-refused (x ∷ xs) p = refl
 pub carried : (xs : List ℕ) (v : Verdict) (next : Writing) → next.form ≤ 255 → next.stage ≤ 255
     → state_of (state_left xs (settled v (state_of xs) next)) ≡ (settled v (state_of xs) next).state
 unfolding state_left
-carried xs clear next f s = back_done next f s
+carried xs (Ok _) next f s = back_done next f s
 carried xs (Refused r) next f s = back-refused xs r.place
 
 -- ---- a form or a stage that is no octet; behind the finish

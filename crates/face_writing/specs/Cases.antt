@@ -1,10 +1,9 @@
 -- The ways of the code: a law for each way out of a function, on plain values.
-use Rattle.std.specs.Prelude.{ℕ, ◌≤◌, ◌<◌, ◌≡◌, List, get_or, set}
+use Rattle.std.specs.Prelude.{Ok, Err, ℕ, ◌≤◌, ◌<◌, ◌≡◌, List, get_or, set}
 use borrow.Author.Tests.{lt-ltb, le-ltb}
 use Rattle.answers.specs.declared.Refusal.{Refusal}
 use Rattle.writing.specs.declared.Writing.{Writing}
 use Rattle.writing.specs.declared.Outcome.{Outcome}
-use Rattle.writing.specs.declared.Written.TheVariants as written
 use Rattle.face_writing.specs.Calling.{form_from, stage_from, state_of, fields_of, outcome_number, state_left}
 
 -- ---- the state of a writing
@@ -50,18 +49,18 @@ taken-up xs f g p q = rw (p, q)
 -- ---- what a call leaves
 
 module _ (o : Outcome) where
-  pub number-done : (n : ℕ) → o.answer ≡ written.Done n → 0 ≡ outcome_number o
+  pub number-done : (n : ℕ) → o.answer ≡ Ok n → 0 ≡ outcome_number o
   unfolding outcome_number
   number-done n q = rw q
 
-  pub number-refused : (r : Refusal) → o.answer ≡ written.Refused r → r.number ≡ outcome_number o
+  pub number-refused : (r : Refusal) → o.answer ≡ Err r → r.number ≡ outcome_number o
   unfolding outcome_number
   number-refused r q = rw q
 
-  pub left-done : (xs d : List ℕ) (n : ℕ) → o.answer ≡ written.Done n → d ≡ fields_of o.state → d ≡ state_left xs o
+  pub left-done : (xs d : List ℕ) (n : ℕ) → o.answer ≡ Ok n → d ≡ fields_of o.state → d ≡ state_left xs o
   unfolding state_left
   left-done xs d n q e = rw q e
 
-  pub left-refused : (xs : List ℕ) (r : Refusal) → o.answer ≡ written.Refused r → set xs 0 r.place ≡ state_left xs o
+  pub left-refused : (xs : List ℕ) (r : Refusal) → o.answer ≡ Err r → set xs 0 r.place ≡ state_left xs o
   unfolding state_left
   left-refused xs r q = rw q

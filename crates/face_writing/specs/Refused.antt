@@ -1,8 +1,8 @@
 -- A refused call changes nothing: where the answer isn't 0, the place alone of the ten numbers is another, and every
 -- octet of the buffer stays.
-use Rattle.std.specs.Prelude.{ℕ, ◌≡◌, refl, List, [], ◌∷◌, drop, set}
-use Rattle.answers.specs.declared.Verdict.{Verdict}
-use Rattle.answers.specs.declared.Verdict.TheVariants.{Clear as clear, Refused}
+use Rattle.std.specs.Prelude.{Ok, ℕ, ◌≡◌, refl, List, [], ◌∷◌, drop, set}
+use Rattle.answers.specs.Verdict.{Verdict}
+use Rattle.answers.specs.Verdict.{Refused}
 use Rattle.answers.specs.Verdict.{kept}
 use Rattle.writing.specs.declared.Writing.{Writing}
 use Rattle.writing.specs.declared.Outcome.{Outcome}
@@ -25,7 +25,7 @@ behind-place (x ∷ xs) p = refl
 stays : (xs : List ℕ) (v : Verdict) (before next : Writing) (d new : List ℕ)
     → Stays xs (settled v before next) d (kept v d new)
 unfolding outcome_number state_left
-stays xs clear before next d new n = absurd (n refl)
+stays xs (Ok _) before next d new n = absurd (n refl)
 stays xs (Refused r) before next d new n = (behind-place xs r.place, refl)
 
 module _ (xs d : List ℕ) where

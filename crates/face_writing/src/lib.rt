@@ -10,7 +10,7 @@ ghost use Rattle.giving.specs.Give.{element_octets};
 ghost use Rattle.begin.specs.Begin.{begin_outcome, begin_octets};
 ghost use Rattle.face_writing.specs.Calling.{form_from, stage_from, state_of, fields_of, outcome_number, state_left};
 
-use writing::{Outcome, Writing, Written};
+use writing::{Outcome, Writing};
 
 fn form_from(form: u64) -> u8
     ensures { result ≡ form_from form }
@@ -72,14 +72,12 @@ fn fields_of(st: Writing) -> [u64; 10]
 fn settle(state: &mut [u64; 10], o: Outcome) -> u32
     ensures { (result ≡ outcome_number o) × (state.new ≡ state_left state.old o) }
 {
-    let answer = o.answer;
-    match answer {
-        Written::Done(_) => {
-            let st = o.state;
-            *state = fields_of(st);
+    match o.answer {
+        Ok(_) => {
+            *state = fields_of(o.state);
             0
         }
-        Written::Refused(r) => {
+        Err(r) => {
             state[0] = r.place as u64;
             r.number
         }

@@ -1,5 +1,5 @@
 -- The ways of the code that opens, closes and finishes, on plain values.
-use Rattle.std.specs.Prelude.{ℕ, zero, suc, ◌+◌, ◌-◌, ◌*◌, ◌^◌, ◌≤◌, ◌<◌, ◌≡◌, Bool, true, false, cond, not, List, eqb, ltb, length, take, drop, replicate}
+use Rattle.std.specs.Prelude.{ℕ, zero, suc, ◌+◌, ◌-◌, ◌*◌, ◌≤◌, ◌<◌, ◌≡◌, Bool, true, false, cond, not, List, eqb, ltb, length, take, drop, replicate}
 use native.Mathlib.Omega.{arith}
 use Rattle.std.proofs.Math.Nat.{sub-zero}
 use Rattle.std.proofs.Common.{sym, ◌∙◌}
@@ -8,9 +8,9 @@ use Rattle.octets.specs.Octets.{rest_of}
 use Rattle.octets.specs.Splice.{stored}
 use Rattle.octets.specs.Word.{le_of, word_of}
 use Rattle.answers.specs.Numbers.{out_of_turn, breaks_rule, most_octets, most_columns, most_opened}
-use Rattle.answers.specs.declared.Verdict.{Verdict}
-use Rattle.answers.specs.declared.Verdict.TheVariants.{Clear as clear, Refused}
-use Rattle.answers.specs.Verdict.{refused, ◌then◌, need, apart, unmet, kept}
+use Rattle.answers.specs.Verdict.{Verdict}
+use Rattle.answers.specs.Verdict.{clear, Refused}
+use Rattle.answers.specs.Verdict.{refused, need, apart, unmet, kept}
 use Rattle.answers.specs.declared.Refusal.{Refusal}
 use Rattle.presence.specs.Presence.{room, is_set}
 use Rattle.entry.specs.Slots.{key_bit}

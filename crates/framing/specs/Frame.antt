@@ -4,7 +4,7 @@ use Rattle.std.specs.Prelude.{ℕ, zero, suc, ◌+◌, ◌-◌, ◌*◌, Bool, t
 use Rattle.octets.specs.Splice.{stored}
 use Rattle.octets.specs.Word.{le_of, word_of}
 use Rattle.answers.specs.Numbers.{out_of_turn, breaks_rule, most_opened}
-use Rattle.answers.specs.declared.Verdict.{Verdict}
+use Rattle.answers.specs.Verdict.{Verdict}
 use Rattle.answers.specs.Verdict.{◌then◌, need, kept}
 use Rattle.presence.specs.Presence.{room, is_set}
 use Rattle.entry.specs.Slots.{key_bit}

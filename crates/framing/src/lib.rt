@@ -42,14 +42,12 @@ fn opened(st: Writing, k: usize) -> Writing
 {
     Writing {
         written: st.written + k,
-        header: st.header,
-        address: st.address,
         opened: st.opened + 1,
         start: st.written,
         next: 0,
         left: 0,
         form: 0,
-        stage: st.stage,
+        ..st
     }
 }
 
@@ -57,7 +55,7 @@ pub fn open(st: Writing, buf: &mut [u8]) -> Outcome
     ensures { (result ≡ open_outcome st buf.old) × (buf.new ≡ open_octets st buf.old) }
 {
     let v = judge_open(st, buf.len());
-    let Verdict::Clear = v else {
+    let Ok(()) = v else {
         return writing::settle(v, st, st);
     };
     let k = open_size(st);
@@ -74,12 +72,10 @@ fn keys_held(buf: &[u8], flags: usize, p: &[u8], n: usize) -> bool
     requires { (flags ≤ most_octets) × (n ≤ most_columns) }
     ensures { result ≡ keys_from buf.now flags p.now n 0 }
 {
-    let mut i = 0;
-    while i < n {
+    for i in 0..n {
         if !entry::key_held(p, word32(buf, flags + 8 * i), i) {
             return false;
         }
-        i += 1;
     }
     true
 }
@@ -92,11 +88,11 @@ fn judge_close(st: Writing, buf: &[u8]) -> Verdict
             return refuse(answers::OUT_OF_TURN, 0);
         }
         if st.opened == 1 {
-            return Verdict::Clear;
+            return Ok(());
         }
         let bits = st.start + 4;
         if keys_held(buf, 28 + 8 * st.header, &buf[bits..], st.address) {
-            return Verdict::Clear;
+            return Ok(());
         }
         return refuse(answers::BREAKS_RULE, 0);
     }
@@ -108,15 +104,12 @@ fn between(st: Writing, stage: u8) -> Writing
     ensures { result ≡ between_of st stage }
 {
     Writing {
-        written: st.written,
-        header: st.header,
-        address: st.address,
-        opened: st.opened,
         start: 0,
         next: 0,
         left: 0,
         form: 0,
         stage,
+        ..st
     }
 }
 
@@ -124,7 +117,7 @@ pub fn close(st: Writing, buf: &mut [u8]) -> Outcome
     ensures { (result ≡ close_outcome st buf.old) × (buf.new ≡ close_octets st buf.old) }
 {
     let v = judge_close(st, buf);
-    let Verdict::Clear = v else {
+    let Ok(()) = v else {
         return writing::settle(v, st, st);
     };
     let at = st.start;
@@ -145,7 +138,7 @@ fn judge_finish(st: Writing, n: usize) -> Verdict
         if st.opened == 1 {
             return refuse(answers::BREAKS_RULE, 0);
         }
-        return Verdict::Clear;
+        return Ok(());
     }
     refuse(answers::OUT_OF_TURN, 0)
 }
@@ -154,22 +147,18 @@ fn judge_finish(st: Writing, n: usize) -> Verdict
 pub fn seal(buf: &mut [u8], end: usize, count: usize)
     ensures { buf.new ≡ sealed_in buf.old end count }
 {
-    if end < 12 {
-        return;
+    if 12 <= end && end <= buf.len() {
+        let serial = serial::serial_of(&buf[12..end]);
+        put_word(buf, 8, 4, count as u64);
+        put_word(buf, 4, 4, serial as u64);
     }
-    if buf.len() < end {
-        return;
-    }
-    let serial = serial::serial_of(&buf[12..end]);
-    put_word(buf, 8, 4, count as u64);
-    put_word(buf, 4, 4, serial as u64);
 }
 
 pub fn finish(st: Writing, buf: &mut [u8]) -> Outcome
     ensures { (result ≡ finish_outcome st buf.old) × (buf.new ≡ finish_octets st buf.old) }
 {
     let v = judge_finish(st, buf.len());
-    let Verdict::Clear = v else {
+    let Ok(()) = v else {
         return writing::settle(v, st, st);
     };
     seal(buf, st.written, st.opened - 1);

@@ -4,16 +4,16 @@ use native.Mathlib.Omega.{arith}
 use Rattle.std.specs.Prelude.{◌≡◌}
 use Rattle.std.proofs.Common.{sym, ◌∙◌, Fits}
 use Rattle.std.proofs.Math.Path.{ap}
-use mathlib.Core.List.{List, ◌++◌}
+use mathlib.Core.List.{List}
 use Rattle.std.proofs.Math.ListN.{length}
 use borrow.Author.Tests.{le-leb, lt-leb}
 use Rattle.std.specs.Int.{w64}
 use Rattle.octets.specs.Splice.{stored, stored-join}
 use Rattle.answers.specs.Numbers.{no_room}
-use Rattle.answers.specs.declared.Verdict.{Verdict}
-use Rattle.answers.specs.declared.Verdict.TheVariants.{Clear as clear, Refused}
+use Rattle.answers.specs.Verdict.{Verdict}
+use Rattle.answers.specs.Verdict.{clear, Refused}
 use Rattle.answers.specs.declared.Refusal.{Refusal}
-use Rattle.answers.specs.Verdict.{refused, ◌then◌}
+use Rattle.answers.specs.Verdict.{refused}
 use Rattle.begin.specs.Begin.{start_size, begin_at, columns_from, start_octets, begin_octets}
 use Rattle.begin.specs.Cases.{from-long, begin-in}
 use Rattle.begin.specs.Taken.{start-long}
@@ -33,7 +33,7 @@ module _ (ht hf ts fs d : List ℕ) (v : Verdict) (e : v ≡ begin_at ht hf ts f
 pub ruleset starts = (rows_fit, start_fits, start-in)
 
 module _ (ht hf ts fs hd d : List ℕ) (v : Verdict) (e : v ≡ begin_at ht hf ts fs (length d)) where
-  pub lay-refused : (r : Refusal) → v ≡ Refused r → v ≡ lay_at ht hf ts fs hd (length d)
+  pub lay-refused : (r : Refusal) → v ≡ Refused r → Refused r ≡ lay_at ht hf ts fs hd (length d)
   unfolding lay_at
   lay-refused r z = rw (← e, z)
 
@@ -59,7 +59,7 @@ module _ (ht hf ts fs hd d : List ℕ) (v : Verdict) (e : v ≡ begin_at ht hf t
       fits : start_size (length ht) (length ts) + length hd ≤ length d
       fits = omega (arith, start-in ht hf ts fs d v e z)
 
-      pub lay_done : v ≡ lay_at ht hf ts fs hd (length d)
+      pub lay_done : clear ≡ lay_at ht hf ts fs hd (length d)
       unfolding lay_at
       lay_done = rw (← e, z, le-leb (start_size (length ht) (length ts) + length hd) (length d) fits)
 

@@ -9,8 +9,8 @@ use mathlib.Core.List.{List, ◌++◌, append_assoc}
 use Rattle.std.proofs.Math.ListN.{length, length-append}
 use Rattle.octets.specs.Splice.{stored, length-stored, stored-join}
 use Rattle.answers.specs.Numbers.{no_room}
-use Rattle.answers.specs.declared.Verdict.{Verdict}
-use Rattle.answers.specs.declared.Verdict.TheVariants.{Clear as clear}
+use Rattle.answers.specs.Verdict.{Verdict}
+use Rattle.answers.specs.Verdict.{clear}
 use Rattle.answers.specs.Verdict.{◌then◌, need, kept}
 use Rattle.table.specs.Table.{Column, SoundTable}
 use Rattle.table.specs.Columns.{tags_of, bits_of, tags-long, bits-long}

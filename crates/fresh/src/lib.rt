@@ -8,8 +8,7 @@ ghost use Rattle.fresh.specs.Fresh.{lay_at, lay_octets};
 use answers::{Verdict, refuse};
 
 // The front: the tables of these columns, their unused flag bits zero, then the header record `head`. Where begin does
-// not
-// take the tables, or the front has no room, nothing changes.
+// not take the tables, or the front has no room, nothing changes.
 pub fn lay_front(
     out: &mut [u8],
     htags: &[u32],
@@ -23,10 +22,7 @@ pub fn lay_front(
         × (out.new ≡ lay_octets htags.now hflags.now tags.now
         flags.now head.now out.old) }
 {
-    let v = begin::judge_begin(htags, hflags, tags, flags, out.len());
-    let Verdict::Clear = v else {
-        return v;
-    };
+    begin::judge_begin(htags, hflags, tags, flags, out.len())?;
     let at = 24 + 8 * (htags.len() + tags.len());
     if out.len() - at < head.len() {
         return refuse(answers::NO_ROOM, 0);
@@ -34,5 +30,5 @@ pub fn lay_front(
     let none = begin::no_writing();
     let _begun = begin::begin(none, htags, hflags, tags, flags, out);
     octets::copy(out, at, head);
-    v
+    Ok(())
 }

@@ -1,5 +1,5 @@
 -- The ways of the calls, on plain values: what a clear verdict stands on, what it makes of state and octets, and a refusal.
-use Rattle.std.specs.Prelude.{ℕ, zero, suc, ◌+◌, ◌-◌, ◌*◌, ◌%◌, ◌≤◌, ◌<◌, ◌≡◌, Bool, true, false, cond, not, List, eqb, length, take, drop}
+use Rattle.std.specs.Prelude.{Err, Ok, ℕ, zero, suc, ◌+◌, ◌-◌, ◌*◌, ◌%◌, ◌≤◌, ◌<◌, ◌≡◌, Bool, true, false, cond, not, List, eqb, length, take, drop}
 use Rattle.std.proofs.Common.{arith, sym, ap, ◌∙◌, append-nil, length-drop, drop_of_length-le}
 use Rattle.std.proofs.Math.Path.{refl}
 use borrow.Author.Tests.{eq-eqb, ne_eqb, eqb-true}
@@ -10,16 +10,15 @@ use Rattle.octets.specs.Splice.{stored}
 use Rattle.octets.specs.Word.{word_of}
 use Rattle.answers.specs.Numbers.{out_of_turn, breaks_form, most_octets, most_columns}
 use Rattle.answers.specs.declared.Refusal.{Refusal}
-use Rattle.answers.specs.declared.Verdict.{Verdict}
-use Rattle.answers.specs.declared.Verdict.TheVariants.{Clear as clear, Refused}
+use Rattle.answers.specs.Verdict.{Verdict}
+use Rattle.answers.specs.Verdict.{clear, Refused}
 use Rattle.answers.specs.Verdict.{refused, need, apart, unmet, kept}
 use Rattle.presence.specs.Presence.{set_bit}
 use Rattle.value.specs.Types.{number_of, form_at, form_of}
-use Rattle.table.specs.declared.Found.{Found}
-use Rattle.table.specs.declared.Found.TheVariants.{At, Nothing}
+use Rattle.table.specs.Found.{Found}
+use Rattle.table.specs.Found.{At, Nothing}
 use Rattle.writing.specs.declared.Writing.{Writing}
 use Rattle.writing.specs.declared.Outcome.{Outcome}
-use Rattle.writing.specs.declared.Written.TheVariants as written
 use Rattle.writing.specs.State.{settled, done_with, columns_of, within_of, room_at, Roomy, room_in_lem, Within, within_in}
 use Rattle.writing.specs.Column.{row_from, column_for}
 use Rattle.table.specs.Found.{is_found, column_of}
@@ -141,18 +140,18 @@ pub ruleset keeping = (keep-none, keep-refused)
 -- ---- what an outcome tells of its verdict
 
 next-same : (v : Verdict) (st a b : Writing) → (v ≡ clear → a ≡ b) → settled v st a ≡ settled v st b
-next-same clear st a b h = ap done_with (h refl)
+next-same (Ok _) st a b h = ap done_with (h refl)
 next-same (Refused r) st a b h = refl
 
-was-clear : (v : Verdict) (st a : Writing) (o : Outcome) (w : ℕ) → o ≡ settled v st a → o.answer ≡ written.Done w → v ≡ clear
-was-clear clear st a o w e q = refl
+was-clear : (v : Verdict) (st a : Writing) (o : Outcome) (w : ℕ) → o ≡ settled v st a → o.answer ≡ Ok w → v ≡ clear
+was-clear (Ok _) st a o w e q = refl
 was-clear (Refused r) st a o w e q =
-    let p : o.answer ≡ written.Refused r = ap (λ (x : Outcome). x.answer) e in
+    let p : o.answer ≡ Err r = ap (λ (x : Outcome). x.answer) e in
     absurd (let z : ◌≡◌ {A = ℕ} 0 1 = cc in omega arith)
 
-kept_same : (v : Verdict) (st a : Writing) (o : Outcome) (r : Refusal) (d x y : List ℕ) → o ≡ settled v st a → o.answer ≡ written.Refused r → kept v d x ≡ kept v d y
-kept_same clear st a o r d x y e q =
-    let p : o.answer ≡ written.Done a.written = ap (λ (x : Outcome). x.answer) e in
+kept_same : (v : Verdict) (st a : Writing) (o : Outcome) (r : Refusal) (d x y : List ℕ) → o ≡ settled v st a → o.answer ≡ Err r → kept v d x ≡ kept v d y
+kept_same (Ok _) st a o r d x y e q =
+    let p : o.answer ≡ Ok a.written = ap (λ (x : Outcome). x.answer) e in
     absurd (let z : ◌≡◌ {A = ℕ} 0 1 = cc in omega arith)
 kept_same (Refused s) st a o r d x y e q = refl
 
@@ -177,11 +176,11 @@ module _ (st : Writing) (d : List ℕ) (tag : ℕ) (v : Given) (f k : ℕ) (e : 
     gave = g ∙ rw (same, e) (next-same (give_at st d tag v) st _ _ (λ c. rw (full c)))
 
     module _ (m : List ℕ) (h : m ≡ kept (placed_at st d tag k) d (marked d (st.start + 4) (column_of (column_for st d tag)))) where
-      pub gave-none : (r : Refusal) → o.answer ≡ written.Refused r → m ≡ give_octets st d tag v
+      pub gave-none : (r : Refusal) → o.answer ≡ Err r → m ≡ give_octets st d tag v
       unfolding give_octets
       gave-none r q = rw (← same) (h ∙ kept_same (placed_at st d tag k) st _ o r d _ _ g q)
 
-      pub gave-octets : (w : ℕ) (l : List ℕ) → o.answer ≡ written.Done w → l ≡ stored m st.written (octets_for (form_at f) v) → l ≡ give_octets st d tag v
+      pub gave-octets : (w : ℕ) (l : List ℕ) → o.answer ≡ Ok w → l ≡ stored m st.written (octets_for (form_at f) v) → l ≡ give_octets st d tag v
       unfolding give_octets form_of
       gave-octets w l q i =
           let c = was-clear (placed_at st d tag k) st _ o w g q in
@@ -230,15 +229,15 @@ module _ (st : Writing) (d : List ℕ) (v : Given) (f k : ℕ) (e : form_at f �
     unfolding element_outcome
     added = g ∙ rw element-same (next-same (element_at st d v) st _ _ (λ c. rw (element-full c)))
 
-    pub added_none : (r : Refusal) → o.answer ≡ written.Refused r → d ≡ element_octets st d v
+    pub added_none : (r : Refusal) → o.answer ≡ Err r → d ≡ element_octets st d v
     unfolding element_octets
     added_none r q = rw (← element-same) (alone (added_at st (length d) k) ∙ kept_same (added_at st (length d) k) st _ o r d d _ g q)
       where
         alone : (x : Verdict) → d ≡ kept x d d
-        alone clear = refl
+        alone (Ok _) = refl
         alone (Refused y) = refl
 
-    pub added-octets : (w : ℕ) (l : List ℕ) → o.answer ≡ written.Done w → l ≡ stored d st.written (octets_for (form_at f) v) → l ≡ element_octets st d v
+    pub added-octets : (w : ℕ) (l : List ℕ) → o.answer ≡ Ok w → l ≡ stored d st.written (octets_for (form_at f) v) → l ≡ element_octets st d v
     unfolding element_octets
     added-octets w l q i =
         let c = was-clear (added_at st (length d) k) st _ o w g q in
@@ -257,7 +256,7 @@ unfolding placed_at
 placed-in st d tag k c = sized-in st.written (length d) k (apart (need (is_found (column_for st d tag)) out_of_turn 0) _ c).1
 
 pub gave_fits : (st : Writing) (d : List ℕ) (tag f k : ℕ) (s : List ℕ) (o : Outcome) (x : Writing) (w : ℕ) → f ≡ number_of (tag % 65536) → k ≡ size_of (form_at f) (Octets s)
-    → o ≡ settled (placed_at st d tag k) st x → o.answer ≡ written.Done w → Fits st d f s
+    → o ≡ settled (placed_at st d tag k) st x → o.answer ≡ Ok w → Fits st d f s
 unfolding form_of
 gave_fits st d tag f k s o x w e q g a =
     let c = was-clear (placed_at st d tag k) st x o w g a in
@@ -273,7 +272,7 @@ added-in st n k c =
     sized-in st.written n k (apart (need (not (eqb st.left 0)) out_of_turn 0) _ a.1).1
 
 pub added-fits : (st : Writing) (d : List ℕ) (f k : ℕ) (s : List ℕ) (o : Outcome) (x : Writing) (w : ℕ) → form_at f ≡ element_form (form_at st.form) → k ≡ size_of (form_at f) (Octets s)
-    → o ≡ settled (added_at st (length d) k) st x → o.answer ≡ written.Done w → Fits st d f s
+    → o ≡ settled (added_at st (length d) k) st x → o.answer ≡ Ok w → Fits st d f s
 added-fits st d f k s o x w e q g a =
     let c = was-clear (added_at st (length d) k) st x o w g a in
     let r = added-in st (length d) k c in

@@ -3,7 +3,7 @@
 use Rattle.std.specs.Prelude.{ℕ, ◌+◌, ◌-◌, ◌%◌, Bool, true, false, cond, not, List, [], ◌∷◌, ◌++◌, ltb, eqb, length, take, drop}
 use Rattle.octets.specs.Splice.{stored}
 use Rattle.answers.specs.Numbers.{out_of_turn, breaks_form}
-use Rattle.answers.specs.declared.Verdict.{Verdict}
+use Rattle.answers.specs.Verdict.{Verdict}
 use Rattle.answers.specs.Verdict.{◌then◌, need, kept}
 use Rattle.answers.specs.Walk.{ends_at}
 use Rattle.presence.specs.Presence.{set_bit}

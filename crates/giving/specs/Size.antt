@@ -10,7 +10,7 @@ use Rattle.octets.specs.Cases.{split}
 use Rattle.octets.specs.Splice.{stored, stored-join}
 use Rattle.octets.specs.Word.{le_of}
 use Rattle.answers.specs.Numbers.{out_of_turn, breaks_form}
-use Rattle.answers.specs.declared.Verdict.{Verdict}
+use Rattle.answers.specs.Verdict.{Verdict}
 use Rattle.answers.specs.Verdict.{◌then◌, need}
 use Rattle.answers.specs.Walk.{ends_at}
 use Rattle.whole.specs.Number.{encode_number}

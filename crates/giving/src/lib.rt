@@ -16,10 +16,9 @@ ghost use Rattle.giving.specs.Size.{sized_at, placed_at, added_at};
 
 use answers::{Verdict, refuse};
 use size::{element_form, list_size, number_size, octets_size, put_octets, put_truth, truth_size};
-use table::Found;
 use value::form_of;
 use whole::put_number;
-use writing::{Outcome, Writing, Written, find_column, judge_room, settle, within};
+use writing::{Outcome, Writing, find_column, judge_room, settle, within};
 
 // A value of `size` octets, 0 where it breaks its form, behind the written octets in a buffer of n.
 fn judge_size(written: usize, n: usize, size: usize) -> Verdict
@@ -61,11 +60,11 @@ fn behind_value(st: Writing, column: usize, size: usize, left: usize, form: u8) 
 fn give(st: Writing, buf: &mut [u8], tag: u32, size: usize, left: usize, form: u8) -> Outcome
     ensures { (result ≡ settled (placed_at st buf.old tag size) st (given_to st (column_of (column_for st buf.old tag)) size left form)) × (buf.new ≡ kept (placed_at st buf.old tag size) buf.old (marked buf.old (st.start + 4) (column_of (column_for st buf.old tag)))) }
 {
-    let Found::At(column) = find_column(st, buf, tag) else {
+    let Some(column) = find_column(st, buf, tag) else {
         return settle(refuse(answers::OUT_OF_TURN, 0), st, st);
     };
     let verdict = judge_size(st.written, buf.len(), size);
-    let Verdict::Clear = verdict else {
+    let Ok(()) = verdict else {
         return settle(verdict, st, st);
     };
     mark(buf, st.start + 4, column);
@@ -73,13 +72,14 @@ fn give(st: Writing, buf: &mut [u8], tag: u32, size: usize, left: usize, form: u
     settle(verdict, st, behind)
 }
 
+// One call a kind of value, each over `give`: the four differ in the value that their clause names.
+
 pub fn give_number(st: Writing, buf: &mut [u8], tag: u32, value: u32) -> Outcome
     ensures { (result ≡ give_outcome st buf.old tag (Number value)) × (buf.new ≡ give_octets st buf.old tag (Number value)) }
 {
     let form = form_of(tag);
     let outcome = give(st, buf, tag, number_size(form, value), 0, 0);
-    let answer = outcome.answer;
-    let Written::Done(_) = answer else {
+    let Ok(_) = outcome.answer else {
         return outcome;
     };
     put_number(buf, st.written, value);
@@ -91,8 +91,7 @@ pub fn give_truth(st: Writing, buf: &mut [u8], tag: u32, yes: bool) -> Outcome
 {
     let form = form_of(tag);
     let outcome = give(st, buf, tag, truth_size(form), 0, 0);
-    let answer = outcome.answer;
-    let Written::Done(_) = answer else {
+    let Ok(_) = outcome.answer else {
         return outcome;
     };
     put_truth(buf, st.written, yes);
@@ -105,8 +104,7 @@ pub fn give_octets(st: Writing, buf: &mut [u8], tag: u32, s: &[u8]) -> Outcome
 {
     let form = form_of(tag);
     let outcome = give(st, buf, tag, octets_size(form, s), 0, 0);
-    let answer = outcome.answer;
-    let Written::Done(_) = answer else {
+    let Ok(_) = outcome.answer else {
         return outcome;
     };
     put_octets(buf, st.written, form, s);
@@ -119,8 +117,7 @@ pub fn give_list(st: Writing, buf: &mut [u8], tag: u32, count: u32) -> Outcome
 {
     let form = form_of(tag);
     let outcome = give(st, buf, tag, list_size(form, count), count as usize, form);
-    let answer = outcome.answer;
-    let Written::Done(_) = answer else {
+    let Ok(_) = outcome.answer else {
         return outcome;
     };
     put_number(buf, st.written, count);
@@ -154,7 +151,7 @@ fn add(st: Writing, n: usize, size: usize) -> Outcome
             return settle(refuse(answers::OUT_OF_TURN, 0), st, st);
         }
         let verdict = judge_size(st.written, n, size);
-        let Verdict::Clear = verdict else {
+        let Ok(()) = verdict else {
             return settle(verdict, st, st);
         };
         let behind = behind_element(st, size);
@@ -168,8 +165,7 @@ pub fn add_number(st: Writing, buf: &mut [u8], value: u32) -> Outcome
 {
     let form = element_form(st.form);
     let outcome = add(st, buf.len(), number_size(form, value));
-    let answer = outcome.answer;
-    let Written::Done(_) = answer else {
+    let Ok(_) = outcome.answer else {
         return outcome;
     };
     put_number(buf, st.written, value);
@@ -181,8 +177,7 @@ pub fn add_octets(st: Writing, buf: &mut [u8], s: &[u8]) -> Outcome
 {
     let form = element_form(st.form);
     let outcome = add(st, buf.len(), octets_size(form, s));
-    let answer = outcome.answer;
-    let Written::Done(_) = answer else {
+    let Ok(_) = outcome.answer else {
         return outcome;
     };
     put_octets(buf, st.written, form, s);

@@ -2,7 +2,7 @@
 use Rattle.std.specs.Prelude.{ℕ, ◌≡◌, refl, List, [], ◌∷◌, length}
 use Rattle.std.proofs.Common.{sym, ◌∙◌}
 use Rattle.octets.specs.Octets.{Octets, octets-drop}
-use Rattle.answers.specs.declared.Verdict.TheVariants.{Clear as clear}
+use Rattle.answers.specs.Verdict.{clear}
 use Rattle.answers.specs.Verdict.{no-clear}
 use Rattle.entry.specs.Record.{SoundRow}
 use Rattle.book.specs.Book.{Book, head_slots, row_slots}

@@ -1,8 +1,8 @@
 -- Calls one after another in one buffer: the first refusal among them, and what they leave.
 use Rattle.std.specs.Prelude.{ℕ, ◌≡◌, refl, List, [], ◌∷◌, ◌++◌, length}
 use Rattle.std.proofs.Common.{ap, ◌∙◌}
-use Rattle.answers.specs.declared.Verdict.{Verdict}
-use Rattle.answers.specs.declared.Verdict.TheVariants.{Clear as clear}
+use Rattle.answers.specs.Verdict.{Verdict}
+use Rattle.answers.specs.Verdict.{clear}
 use Rattle.answers.specs.Verdict.{◌then◌, apart, then-assoc, joins, then-clear}
 use Rattle.framing.specs.Frame.{finish_at, finish_octets}
 use Rattle.drafting.specs.Run.{Call, verdict_of}

@@ -4,8 +4,8 @@ use Rattle.std.specs.Prelude.{ℕ, ◌≡◌, refl, true, false, List, [], ◌�
 use Rattle.std.proofs.Common.{arith, sym, ap, ◌∙◌, append-nil}
 use Rattle.std.proofs.Math.Seq.{drop-append_seam}
 use Rattle.octets.specs.Cases.{same-either}
-use Rattle.answers.specs.declared.Walk.TheVariants.{Ends}
-use Rattle.whole.specs.declared.Number.TheVariants.{Is}
+use Rattle.answers.specs.Walk.{Ends}
+use Rattle.whole.specs.Number.{Some}
 use Rattle.whole.specs.Number.{number_of, encode_number}
 use Rattle.whole.specs.Laws.{number-back}
 use Rattle.value.specs.Types.{Kind, Form, one, many, unknown}
@@ -49,7 +49,7 @@ list-pieces k v (Number x) rest h e d g r = unlike e
 list-pieces k v (Truth b) rest h e d g r = unlike e
 list-pieces k v (Octets s) rest h e d g r = unlike e
 list-pieces k v (Count n) rest h e d g r =
-    let q : number_of (encode_number n ++ joined (one k) rest) ≡ Is n (length (encode_number n)) =
+    let q : number_of (encode_number n ++ joined (one k) rest) ≡ Some (n, length (encode_number n)) =
     number-back n h (joined (one k) rest) in
     rw (r, q, drop-append_seam (encode_number n) (joined (one k) rest), d)
     (ap (λ (l : List ℕ). length (encode_number (length rest)) ∷ l) (sym (elements-are k rest g)))

@@ -1,7 +1,7 @@
 -- A book comes back from its own sheet: one that has just the sheet's columns in that order, zero unused flag bits and
 -- only types that can be exported is made again, octet by octet, of the sheet and its own flags, header table and
 -- header record.
-use Rattle.std.specs.Prelude.{ℕ, suc, ◌+◌, ◌^◌, ◌≤◌, ◌<◌, ◌≡◌, refl, true, drop, get_or}
+use Rattle.std.specs.Prelude.{Ok, ℕ, suc, ◌+◌, ◌^◌, ◌≤◌, ◌<◌, ◌≡◌, refl, true, drop, get_or}
 use Rattle.std.proofs.Common.{arith, add-zero, ap, ap₂, subst, ◌∙◌, drop_of_length-le, drop-cons}
 use Rattle.std.proofs.Math.Path.{sym}
 use Rattle.std.proofs.Math.Option.{Option, none}
@@ -11,11 +11,10 @@ use Rattle.std.proofs.Math.Seq.{drop-append_seam}
 use borrow.Author.Tests.{eq-eqb}
 use Rattle.octets.specs.Octets.{Octets}
 use Rattle.octets.specs.Splice.{stored}
-use Rattle.answers.specs.declared.Verdict.TheVariants.{Clear as clear}
-use Rattle.answers.specs.declared.Made.TheVariants as made
+use Rattle.answers.specs.Verdict.{clear}
 use Rattle.table.specs.Table.{Column, SoundColumns, SoundTable}
 use Rattle.table.specs.Columns.{tags_of, tags-long}
-use Rattle.table.specs.declared.Found.TheVariants.{At}
+use Rattle.table.specs.Found.{At}
 use Rattle.entry.specs.Present.{Row}
 use Rattle.entry.specs.Record.{Slot, SoundRow, record-back, row_octets, row-long, row-size}
 use Rattle.entry.specs.Read.{row_in, row-in}
@@ -98,7 +97,7 @@ offered-back ss es h k =
 abbrev pub Returned : Book → List ℕ → List ℕ → List ℕ → Type 0
 Returned b text d xs =
     (from_answer text (flags_of b.cols) (tags_of b.heads) (flags_of b.heads) (row_octets b.head) d
-    ≡ made.Done (length xs))
+    ≡ Ok (length xs))
     × (from_octets text (flags_of b.cols) (tags_of b.heads) (flags_of b.heads) (row_octets b.head) d
     ≡ stored d 0 xs)
 

@@ -2,7 +2,7 @@
 use Rattle.std.specs.Prelude.{ℕ, ◌+◌, ◌≤◌, ◌≡◌, refl, List, [], ◌∷◌, length}
 use Rattle.std.proofs.Common.{arith, length-append, ne_eqb, lt-ltb, le-leb}
 use Rattle.answers.specs.Numbers.{most_octets, most_opened}
-use Rattle.answers.specs.declared.Verdict.TheVariants.{Clear as clear}
+use Rattle.answers.specs.Verdict.{clear}
 use Rattle.answers.specs.Verdict.{both}
 use Rattle.presence.specs.Presence.{room}
 use Rattle.entry.specs.Present.{Row}

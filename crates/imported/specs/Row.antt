@@ -9,7 +9,7 @@ use Rattle.std.proofs.Math.Option.{none, some}
 use mathlib.Core.List.{List, [], ◌∷◌, ◌++◌, append_assoc}
 use Rattle.std.proofs.Math.ListN.{length, set, length-append, length-replicate}
 use Rattle.std.proofs.Math.Seq.{set_at}
-use Rattle.answers.specs.declared.Verdict.{Verdict}
+use Rattle.answers.specs.Verdict.{Verdict}
 use Rattle.answers.specs.Verdict.{◌then◌}
 use Rattle.value.specs.Types.{Form}
 use Rattle.table.specs.Table.{Column}

@@ -9,8 +9,8 @@ use Rattle.std.proofs.Math.ListN.{length, length-append}
 use borrow.Author.Tests.{ne_eqb}
 use Rattle.octets.specs.Splice.{stored}
 use Rattle.answers.specs.Numbers.{breaks_rule}
-use Rattle.answers.specs.declared.Verdict.{Verdict}
-use Rattle.answers.specs.declared.Verdict.TheVariants.{Clear as clear}
+use Rattle.answers.specs.Verdict.{Verdict}
+use Rattle.answers.specs.Verdict.{clear}
 use Rattle.answers.specs.Verdict.{◌then◌, need, apart, then-assoc, joins}
 use Rattle.table.specs.Table.{Column}
 use Rattle.table.specs.Columns.{tags_of}

@@ -1,7 +1,7 @@
 -- A book from a sheet is the book that the writer's own calls give (request 106): where text, flags, tables and header
 -- record are taken, the call answers the first refusal of those calls, and leaves what they leave.
 use Rattle.std.specs.Prelude.{ℕ, ◌≡◌, List, length}
-use Rattle.answers.specs.declared.Verdict.TheVariants.{Clear as clear}
+use Rattle.answers.specs.Verdict.{clear}
 use Rattle.entry.specs.Record.{SoundRow}
 use Rattle.book.specs.Book.{Book, head_slots, row_slots}
 use Rattle.drafting.specs.Written.{begun}

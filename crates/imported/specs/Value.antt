@@ -9,11 +9,11 @@ use Rattle.std.proofs.Math.Option.{none, some}
 use mathlib.Core.List.{List, [], ◌∷◌, ◌++◌, append_assoc, append-nil}
 use Rattle.std.proofs.Math.ListN.{length, get_or, set}
 use Rattle.std.proofs.lemmas.List.{set-get_or}
-use Rattle.answers.specs.declared.Verdict.TheVariants.{Clear as clear}
+use Rattle.answers.specs.Verdict.{clear}
 use Rattle.value.specs.Types.{Form, form_of}
 use Rattle.table.specs.Table.{Column}
 use Rattle.table.specs.Columns.{tags_of}
-use Rattle.table.specs.declared.Found.TheVariants.{At}
+use Rattle.table.specs.Found.{At}
 use Rattle.entry.specs.Present.{Row}
 use Rattle.entry.specs.Record.{Slot}
 use Rattle.writing.specs.State.{within_of, room_at, room_in_lem}

@@ -2,7 +2,7 @@
 use Prim.Native.Nat.{ℕ, suc, ◌+◌, ◌-◌, ◌%◌, ◌^◌, ◌≤◌, ◌<◌}
 use Rattle.std.proofs.Common.{zero-add, add-one, ◌∙◌, take_at, take_all, Fits}
 use native.Mathlib.Omega.{arith}
-use Rattle.std.specs.Prelude.{◌≡◌, Bool, true, false, not, eqb, drop, get_or}
+use Rattle.std.specs.Prelude.{Ok, Err, ◌≡◌, Bool, true, false, not, eqb, drop, get_or}
 use Rattle.std.proofs.Math.Path.{refl, sym, ap, ap₂}
 use mathlib.Core.List.{List, [], ◌∷◌, ◌++◌}
 use Rattle.std.proofs.Math.ListN.{length, take, set, replicate, length-append, length-replicate}
@@ -14,12 +14,11 @@ use Rattle.octets.specs.Splice.{splice, stored, length-splice, length-stored}
 use Rattle.answers.specs.Numbers.{out_of_turn, breaks_rule, breaks_form, wrong_sheet, most_octets, most_columns}
 use Rattle.answers.specs.Padded.{padded, padded-long}
 use Rattle.answers.specs.declared.Refusal.{Refusal}
-use Rattle.answers.specs.declared.Verdict.{Verdict}
-use Rattle.answers.specs.declared.Verdict.TheVariants.{Clear as clear, Refused}
+use Rattle.answers.specs.Verdict.{Verdict}
+use Rattle.answers.specs.Verdict.{clear, Refused}
 use Rattle.answers.specs.Verdict.{refused, ◌then◌, need, apart, unmet, no-clear, joins}
-use Rattle.answers.specs.declared.Walk.{Walk}
-use Rattle.answers.specs.declared.Walk.TheVariants.{Ends, Broken}
-use Rattle.answers.specs.declared.Made.TheVariants as made
+use Rattle.answers.specs.Walk.{Walk}
+use Rattle.answers.specs.Walk.{Ends, Broken}
 use Rattle.presence.specs.Presence.{room}
 use Rattle.entry.specs.Record.{row_octets}
 use Rattle.entry.specs.Slots.{slots_from, slots-many}
@@ -170,18 +169,18 @@ asked_is tags flags width s e =
 
 module _ (forms codes flags hrec s : List ℕ) (w n : ℕ) (o : Verdict) (oe : o ≡ offered_in (slots_from forms []) hrec)
   where
-    pub records-offered : (r : Refusal) → o ≡ Refused r → o ≡ records_at forms codes flags hrec s w n
+    pub records-offered : (r : Refusal) → o ≡ Refused r → Refused r ≡ records_at forms codes flags hrec s w n
     unfolding records_at
-    records-offered r z = z ∙ rw (← oe, z)
+    records-offered r z = rw (← oe, z)
 
     module _ (z : o ≡ clear) where
       pub records-long : 4 + room (length forms) ≤ length hrec
       records-long = rw (slots-many forms []) at (offered-long (slots_from forms []) hrec (sym oe ∙ z))
 
       module _ (v : Verdict) (ve : v ≡ head_given forms w n hrec) where
-        pub records-first : (r : Refusal) → v ≡ Refused r → v ≡ records_at forms codes flags hrec s w n
+        pub records-first : (r : Refusal) → v ≡ Refused r → Refused r ≡ records_at forms codes flags hrec s w n
         unfolding records_at
-        records-first r y = y ∙ rw (← oe, z, ← ve, y)
+        records-first r y = rw (← oe, z, ← ve, y)
 
         pub records-lines : v ≡ clear → (x : Verdict) → x ≡ lines_given codes flags (w + length hrec) n (rows_of codes s)
             → x ≡ records_at forms codes flags hrec s w n
@@ -196,9 +195,9 @@ pub ruleset records_cases = (records-offered, records-long, records-first, recor
 -- ---- begin, then the records
 
 module _ (tags flags ht hf hrec s : List ℕ) (n : ℕ) (b : Verdict) (be : b ≡ begin_at ht hf tags flags n) where
-  pub given-begin : (r : Refusal) → b ≡ Refused r → b ≡ given_at tags flags ht hf hrec s n
+  pub given-begin : (r : Refusal) → b ≡ Refused r → Refused r ≡ given_at tags flags ht hf hrec s n
   unfolding given_at
-  given-begin r z = z ∙ rw (← be, z)
+  given-begin r z = rw (← be, z)
 
   module _ (z : b ≡ clear) where
     begins : Begins ht hf tags flags n
@@ -405,7 +404,7 @@ pub ruleset finish_cases = (finish-kept, finish-as)
 
 module _ (tags flags ht hf hrec s d : List ℕ) (u : Verdict) (ue : u ≡ given_at tags flags ht hf hrec s (length d)) where
   module _ (r : Refusal) (y : u ≡ Refused r) where
-    pub give-refused : made.Refused r ≡ given_answer tags flags ht hf hrec s d
+    pub give-refused : Err r ≡ given_answer tags flags ht hf hrec s d
     unfolding given_answer
     give-refused = rw (← ue, y)
 
@@ -418,7 +417,7 @@ module _ (tags flags ht hf hrec s d : List ℕ) (u : Verdict) (ue : u ≡ given_
     give-clear = sym ue ∙ y
 
     pub give-done : (n : ℕ) → n ≡ length (book_octets (rest_book tags flags ht hf hrec s))
-        → made.Done n ≡ given_answer tags flags ht hf hrec s d
+        → Ok n ≡ given_answer tags flags ht hf hrec s d
     unfolding given_answer
     give-done n q = rw (← ue, y, q)
 

@@ -1,12 +1,16 @@
 -- The ways of the code that goes over a field and lays its value down, on plain values.
 use Rattle.std.specs.Prelude.{ℕ, zero, suc, ◌+◌, ◌-◌, ◌*◌, ◌/◌, ◌%◌, ◌≤◌, ◌<◌, ◌≡◌, refl, Bool, not, eqb, length, take, drop, get_or, set}
-use Rattle.std.proofs.Common.{add-zero, zero-add, arith, sym, ◌∙◌, length-append, length-drop, drop_of_length-le, take_all, drop-drop, get_or-drop}
+use Rattle.std.specs.List.{position_or_len}
+use Rattle.std.specs.Option.{unwrap_or}
+use Rattle.std.proofs.lemmas.List.Sums.{prefix_len-le-length}
+use Rattle.std.proofs.Common.{Option, Some, None, ltb, lt-ltb, le-ltb, add-zero, zero-add, arith, sym, ◌∙◌, length-append, length-drop, drop_of_length-le, take_all, drop-drop, get_or-drop}
 use Rattle.std.proofs.Math.Path.{ap}
 use Rattle.std.proofs.Math.Bool.{true, false, cond}
 use Rattle.std.proofs.Math.Option.{none, some}
 use mathlib.Core.List.{List, [], ◌∷◌, ◌++◌}
 use Rattle.std.proofs.Math.Arith.{digits_mod}
 use borrow.Author.Tests.{eq-eqb, ne_eqb, eqb-true}
+use Rattle.octets.specs.Cases.{split}
 use Rattle.octets.specs.Octets.{octet_at, drop-next}
 use Rattle.octets.specs.Splice.{splice, splice-nil, stored, stored-in}
 use Rattle.octets.specs.Stores.{splice-one, laid, laid-long}
@@ -59,6 +63,62 @@ module _ (s : List ℕ) (at i : ℕ) (inv : i + plain_long (drop i s) ≡ at + p
 
   pub plain-ends : length s ≤ i → i ≡ at + plain_long (drop at s)
   plain-ends h = let a = none-plain s i h in omega arith
+
+-- the first place at which a test passes
+pub first_place : (p : ℕ → Bool) (xs : List ℕ) (r : Option ℕ)
+    → r ≡ cond (ltb (position_or_len p xs) (length xs)) (Some (position_or_len p xs)) None
+    → unwrap_or r (length xs) ≡ position_or_len p xs
+first_place p xs r e =
+    let l = prefix_len-le-length (λ x. not (p x)) xs in
+    split (position_or_len p xs) (length xs) (λ h. rw (e, lt-ltb (position_or_len p xs) (length xs) h))
+    (λ h. rw (e, le-ltb (position_or_len p xs) (length xs) h) (omega arith))
+
+pub plain_place : (xs : List ℕ) → plain_long xs ≡ position_or_len is_mark xs
+unfolding plain_long
+plain_place [] = refl
+plain_place (x ∷ xs) = go (is_mark x) (plain_place xs)
+  where
+    go : (b : Bool) → plain_long xs ≡ position_or_len is_mark xs
+        → cond b 0 (suc (plain_long xs)) ≡ cond (not b) (1 + position_or_len is_mark xs) 0
+    go true e = refl
+    go false e = omega arith
+
+pub quoted_place : (xs : List ℕ) → quoted_long xs ≡ position_or_len (λ x. eqb x 34) xs
+unfolding quoted_long
+quoted_place [] = refl
+quoted_place (x ∷ xs) = go (eqb x 34) (quoted_place xs)
+  where
+    go : (b : Bool) → quoted_long xs ≡ position_or_len (λ y. eqb y 34) xs
+        → cond b 0 (suc (quoted_long xs)) ≡ cond (not b) (1 + position_or_len (λ y. eqb y 34) xs) 0
+    go true e = refl
+    go false e = omega arith
+
+module _ (s : List ℕ) (at : ℕ) (h : at ≤ length s) (r : Option ℕ) (u : ℕ)
+    (e : u ≡ unwrap_or r (length (take (length s - at) (drop at s)))) where
+  place-from : (p : ℕ → Bool) (long : List ℕ → ℕ) → ((xs : List ℕ) → long xs ≡ position_or_len p xs)
+      → r ≡ cond (ltb (position_or_len p (take (length s - at) (drop at s))) (length (take (length s - at) (drop at s))))
+      (Some (position_or_len p (take (length s - at) (drop at s)))) None
+      → (at + u ≡ at + long (drop at s)) × (at + u ≤ length s)
+  place-from p long is q =
+      let l = length-drop at s in
+      let a : take (length s - at) (drop at s) ≡ drop at s = take_all (length s - at) (drop at s) (omega arith) in
+      let b : u ≡ position_or_len p (drop at s) = rw a at (e ∙ first_place p _ r q) in
+      let c = prefix_len-le-length (λ x. not (p x)) (drop at s) in
+      let d = is (drop at s) in
+      (omega arith, omega arith)
+
+  pub plain_from : r ≡ cond
+      (ltb (position_or_len is_mark (take (length s - at) (drop at s))) (length (take (length s - at) (drop at s))))
+      (Some (position_or_len is_mark (take (length s - at) (drop at s)))) None
+      → (at + u ≡ at + plain_long (drop at s)) × (at + u ≤ length s)
+  plain_from = place-from is_mark plain_long plain_place
+
+  pub quoted_from : r ≡ cond
+      (ltb (position_or_len (λ x. eqb x 34) (take (length s - at) (drop at s)))
+      (length (take (length s - at) (drop at s))))
+      (Some (position_or_len (λ x. eqb x 34) (take (length s - at) (drop at s)))) None
+      → (at + u ≡ at + quoted_long (drop at s)) × (at + u ≤ length s)
+  quoted_from = place-from (λ x. eqb x 34) quoted_long quoted_place
 
 pub ruleset plain_end = (plain-stops, plain-goes, plain-ends)
 

@@ -1,19 +1,19 @@
 -- Where the writer's calls are clear, their octets fit and the rows may be written; and what the code finds of the
 -- header record is what the table says of it.
-use Rattle.std.specs.Prelude.{ℕ, zero, suc, ◌+◌, ◌≤◌, ◌<◌, ◌≡◌, refl, Bool, true, false, cond, List, [], ◌∷◌, ◌++◌, ltb, length, drop}
+use Rattle.std.specs.Prelude.{Ok, ℕ, zero, suc, ◌+◌, ◌≤◌, ◌<◌, ◌≡◌, refl, Bool, true, false, cond, List, [], ◌∷◌, ◌++◌, ltb, length, drop}
 use Rattle.std.proofs.Common.{add-zero, zero-add, arith, sym, ap, ◌∙◌, append-nil, length-append, ne_eqb, ltb-true}
 use Rattle.std.proofs.Math.Option.{none, some}
 use Rattle.std.proofs.Math.Seq.{take-append_seam, drop-append_seam}
 use Rattle.answers.specs.Numbers.{breaks_rule, most_octets, most_opened}
-use Rattle.answers.specs.declared.Verdict.{Verdict}
-use Rattle.answers.specs.declared.Verdict.TheVariants.{Clear as clear, Refused}
+use Rattle.answers.specs.Verdict.{Verdict}
+use Rattle.answers.specs.Verdict.{clear, Refused}
 use Rattle.answers.specs.Verdict.{◌then◌, need, apart, unmet}
-use Rattle.answers.specs.declared.Walk.{Walk}
-use Rattle.answers.specs.declared.Walk.TheVariants.{Ends, Broken}
+use Rattle.answers.specs.Walk.{Walk}
+use Rattle.answers.specs.Walk.{Ends, Broken}
 use Rattle.answers.specs.Walk.{broken, onto, no_end}
 use Rattle.presence.specs.Presence.{room}
-use Rattle.whole.specs.declared.Number.{Number}
-use Rattle.whole.specs.declared.Number.TheVariants.{Is, Broken as NoNumber}
+use Rattle.whole.specs.Number.{Number}
+use Rattle.whole.specs.Number.{Some, Broken as NoNumber}
 use Rattle.whole.specs.Number.{number_of}
 use Rattle.value.specs.Types.{Kind, Form, one, many, unknown, form_at}
 use Rattle.value.specs.Value.{counted, element_of, list_from, list_of, value_of}
@@ -60,7 +60,7 @@ list-sum k v e q = go (number_of v) q
 
     go : (r : Number) → counted r (λ n w. cond (ltb n 1) broken (list_from k n w (drop w v))) ≡ Ends e
         → sum (count_then r (λ n w. elements_of k n (drop w v))) ≡ e
-    go (Is n w) z = more (ltb n 1) n w z
+    go (Some (n, w)) z = more (ltb n 1) n w z
     go NoNumber z = no_end z
 
 pub pieces-sum : (f : Form) (v : List ℕ) → IsValue f v → sum (pieces_of f v) ≡ length v
@@ -98,7 +98,7 @@ pieces-append w n (k ∷ ks) ls = go (room_at w n k) (pieces-append (w + k) n ks
     go : (v : Verdict) → pieces_at (w + k) n (ks ++ ls) ≡ (pieces_at (w + k) n ks then pieces_at (w + k + sum ks) n ls)
         → v then pieces_at (w + k) n (ks ++ ls)
         ≡ ((v then pieces_at (w + k) n ks) then pieces_at (w + (k + sum ks)) n ls)
-    go clear ih = let e : w + k + sum ks ≡ w + (k + sum ks) = omega arith in rw (← e) ih
+    go (Ok _) ih = let e : w + k + sum ks ≡ w + (k + sum ks) = omega arith in rw (← e) ih
     go (Refused r) ih = refl
 
 pub pieces_room : (ks : List ℕ) (w n : ℕ) → Roomed w n → pieces_at w n ks ≡ clear → Roomed (w + sum ks) n

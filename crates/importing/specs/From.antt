@@ -3,12 +3,12 @@
 use Rattle.std.specs.Prelude.{ℕ, ◌+◌, not, List, [], eqb, length, drop}
 use Rattle.octets.specs.Splice.{stored}
 use Rattle.answers.specs.Numbers.{out_of_turn, breaks_rule, breaks_form, wrong_sheet}
-use Rattle.answers.specs.declared.Verdict.{Verdict}
-use Rattle.answers.specs.declared.Verdict.TheVariants.{Clear as clear}
+use Rattle.answers.specs.Verdict.{Verdict}
+use Rattle.answers.specs.Verdict.{clear}
 use Rattle.answers.specs.Verdict.{refused, ◌then◌, need, kept}
-use Rattle.answers.specs.declared.Walk.{Walk}
-use Rattle.answers.specs.declared.Walk.TheVariants.{Ends, Broken}
-use Rattle.answers.specs.declared.Made.{Made}
+use Rattle.answers.specs.Walk.{Walk}
+use Rattle.answers.specs.Walk.{Ends, Broken}
+use Rattle.answers.specs.Made.{Made}
 use Rattle.answers.specs.Made.{answered}
 use Rattle.entry.specs.Present.{Row}
 use Rattle.entry.specs.Record.{row_octets}

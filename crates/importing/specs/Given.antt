@@ -3,14 +3,14 @@
 use Rattle.std.specs.Prelude.{ℕ, zero, suc, ◌+◌, Bool, true, false, cond, List, [], ◌∷◌, ◌++◌, ltb, length, drop}
 use Rattle.std.proofs.Math.Option.{none, some}
 use Rattle.answers.specs.Numbers.{breaks_rule, most_opened}
-use Rattle.answers.specs.declared.Verdict.{Verdict}
-use Rattle.answers.specs.declared.Verdict.TheVariants.{Clear as clear}
+use Rattle.answers.specs.Verdict.{Verdict}
+use Rattle.answers.specs.Verdict.{clear}
 use Rattle.answers.specs.Verdict.{◌then◌, need}
-use Rattle.answers.specs.declared.Walk.{Walk}
-use Rattle.answers.specs.declared.Walk.TheVariants.{Ends, Broken}
+use Rattle.answers.specs.Walk.{Walk}
+use Rattle.answers.specs.Walk.{Ends, Broken}
 use Rattle.presence.specs.Presence.{room}
-use Rattle.whole.specs.declared.Number.{Number}
-use Rattle.whole.specs.declared.Number.TheVariants.{Is, Broken as NoNumber}
+use Rattle.whole.specs.Number.{Number}
+use Rattle.whole.specs.Number.{Some, Broken as NoNumber}
 use Rattle.whole.specs.Number.{number_of}
 use Rattle.value.specs.Types.{Kind, Form, one, many, unknown}
 use Rattle.value.specs.Value.{element_of}
@@ -30,7 +30,7 @@ elements_of k zero xs = []
 elements_of k (suc n) xs = width_then (element_of k xs) (λ w. elements_of k n (drop w xs))
 
 abbrev pub count_then : Number → (ℕ → ℕ → List ℕ) → List ℕ
-count_then (Is n w) f = w ∷ f n w
+count_then (Some (n, w)) f = w ∷ f n w
 count_then NoNumber f = []
 
 -- the calls that give the value v

@@ -3,8 +3,8 @@
 use Rattle.std.specs.Prelude.{ℕ, suc, ◌+◌, ◌%◌, cond, List, [], ◌∷◌, eqb, length, take, drop}
 use Rattle.octets.specs.Word.{word_of}
 use Rattle.answers.specs.Numbers.{breaks_form}
-use Rattle.answers.specs.declared.Verdict.{Verdict}
-use Rattle.answers.specs.declared.Verdict.TheVariants.{Clear as clear}
+use Rattle.answers.specs.Verdict.{Answer, Verdict, answered}
+use Rattle.answers.specs.Verdict.{clear}
 use Rattle.answers.specs.Verdict.{◌then◌, need}
 use Rattle.presence.specs.Presence.{room}
 use Rattle.value.specs.Types.{Form, number_of, form_at}
@@ -13,7 +13,6 @@ use Rattle.entry.specs.Slots.{step_of}
 use Rattle.entry.specs.Read.{width_of}
 use Rattle.writing.specs.State.{room_at}
 use Rattle.importing.specs.Given.{pieces_of, pieces_at}
-use Rattle.importing.specs.declared.head.Given.{Given}
 
 -- one record to its last octet
 unfoldable pub offered_in : List Slot → List ℕ → Verdict
@@ -35,12 +34,12 @@ column_given f v w n = cond (eqb (length v) 0) clear (pieces_at w n (pieces_of f
 abbrev pub column_long : ℕ → List ℕ → ℕ → List ℕ → ℕ
 column_long i p f xs = width_of (step_of p i (form_at f) xs)
 
--- and what the calls answer that give it, where it stands at i of xs and w octets are written before the values
-unfoldable pub next_given : List ℕ → ℕ → ℕ → List ℕ → ℕ → ℕ → ℕ → Given
-next_given p j f xs i w n = record {
-  verdict = column_given (form_at f) (take (column_long j p f (drop i xs)) (drop i xs)) (w + i) n;
-  end = i + column_long j p f (drop i xs);
-}
+-- what the calls answer that give it, where it stands at i of xs and w octets are written before the values; and where
+-- it ends
+unfoldable pub next_given : List ℕ → ℕ → ℕ → List ℕ → ℕ → ℕ → ℕ → Answer ℕ
+next_given p j f xs i w n =
+    answered (column_given (form_at f) (take (column_long j p f (drop i xs)) (drop i xs)) (w + i) n)
+    (i + column_long j p f (drop i xs))
 
 -- the values from column i on; xs is what is left of the record
 unfoldable pub head_from : List ℕ → ℕ → List ℕ → ℕ → ℕ → List ℕ → Verdict

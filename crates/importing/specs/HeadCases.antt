@@ -1,25 +1,27 @@
 -- The ways of the code over the header record, on plain values.
-use Rattle.std.specs.Prelude.{ℕ, zero, suc, ◌+◌, ◌-◌, ◌%◌, ◌^◌, ◌≤◌, ◌<◌, ◌≡◌, refl, length, take, drop, get_or, set, replicate}
+use Rattle.std.specs.Prelude.{Ok, Err, ℕ, zero, suc, ◌+◌, ◌-◌, ◌%◌, ◌^◌, ◌≤◌, ◌<◌, ◌≡◌, refl, length, take, drop, get_or, set, replicate}
 use Rattle.std.proofs.Common.{add-zero, add-one, ◌∙◌, length-drop, drop_of_length-le, take-suc, take_all, length-take-le, Fits}
 use native.Mathlib.Omega.{arith}
 use Rattle.std.proofs.Math.Path.{sym, ap, ap₂}
 use mathlib.Core.List.{List, [], ◌∷◌, ◌++◌}
 use Rattle.std.proofs.Math.Seq.{drop-drop}
 use Rattle.std.specs.Int.{w64}
+use Rattle.std.specs.Result.{result_unwrap_or}
 use borrow.Author.Tests.{eq-eqb, ne_eqb, lt-ltb, le-ltb}
 use Rattle.octets.specs.Octets.{drop-next}
 use Rattle.octets.specs.Word.{word_of}
 use Rattle.answers.specs.Numbers.{breaks_form, most_octets, most_columns}
 use Rattle.answers.specs.Padded.{padded, padded-long, padded-more}
 use Rattle.answers.specs.declared.Refusal.{Refusal}
-use Rattle.answers.specs.declared.Verdict.{Verdict}
-use Rattle.answers.specs.declared.Verdict.TheVariants.{Clear as clear, Refused}
+use Rattle.answers.specs.Verdict.{Answer, Verdict, answered}
+use Rattle.answers.specs.Made.{answered-done, answered-refused}
+use Rattle.answers.specs.Verdict.{clear, Refused}
 use Rattle.answers.specs.Verdict.{refused, ◌then◌, then-clear}
-use Rattle.answers.specs.declared.Walk.{Walk}
-use Rattle.answers.specs.declared.Walk.TheVariants.{Ends, Broken}
+use Rattle.answers.specs.Walk.{Walk}
+use Rattle.answers.specs.Walk.{Ends, Broken}
 use Rattle.presence.specs.Presence.{room}
-use Rattle.whole.specs.declared.Number.{Number}
-use Rattle.whole.specs.declared.Number.TheVariants.{Is, Broken as NoNumber}
+use Rattle.whole.specs.Number.{Number}
+use Rattle.whole.specs.Number.{Some, Broken as NoNumber}
 use Rattle.whole.specs.Number as whole
 use Rattle.whole.specs.Laws.{number-within}
 use Rattle.value.specs.Types.{Kind, Form, one, many, number_of, kind_at, form_at}
@@ -32,7 +34,6 @@ use Rattle.entry.specs.Read.{width_of}
 use Rattle.writing.specs.State.{room_at, room_in_lem}
 use Rattle.importing.specs.Given.{elements_of, pieces_of, pieces_at}
 use Rattle.importing.specs.Head.{offered_in, forms_for, column_given, column_long, next_given, head_from, head_given}
-use Rattle.importing.specs.declared.head.Given.{Given}
 
 -- ---- the forms
 
@@ -144,8 +145,8 @@ module _ (kind : ℕ) (s : List ℕ) (n k i left : ℕ) (all : Verdict)
           rw (ve, ← d)
           (ap (pieces_at k n) (sym (elements-step (kind_at kind) left (drop i s) w some (sym walk_is ∙ z))) ∙ inv)
 
-      pub elements-refused : (x : Refusal) → v ≡ Refused x → v ≡ all
-      elements-refused x y = y ∙ rw y at next-is
+      pub elements-refused : (x : Refusal) → v ≡ Refused x → Refused x ≡ all
+      elements-refused x y = rw y at next-is
 
       pub elements-next : v ≡ clear
           → pieces_at (k + w) n (elements_of (kind_at kind) (left - 1) (drop (i + w) s)) ≡ all
@@ -178,7 +179,7 @@ module _ (kind : ℕ) (v : List ℕ) (w n : ℕ) (r : Number) (e : r ≡ whole.n
   unfolding pieces_of pieces_at
   list-none z = rw (← e, z)
 
-  module _ (count k : ℕ) (z : r ≡ Is count k) (x : Verdict) (xe : x ≡ room_at w n k) where
+  module _ (count k : ℕ) (z : r ≡ Some (count, k)) (x : Verdict) (xe : x ≡ room_at w n k) where
     pub list-within : k ≤ length v
     list-within = number-within r v count k z e
 
@@ -187,8 +188,8 @@ module _ (kind : ℕ) (v : List ℕ) (w n : ℕ) (r : Number) (e : r ≡ whole.n
     unfolding pieces_of pieces_at
     list-is = rw (xe, ← e, z)
 
-    pub list-refused : (y : Refusal) → x ≡ Refused y → x ≡ pieces_at w n (pieces_of (many (kind_at kind)) v)
-    list-refused y q = q ∙ rw q at list-is
+    pub list-refused : (y : Refusal) → x ≡ Refused y → Refused y ≡ pieces_at w n (pieces_of (many (kind_at kind)) v)
+    list-refused y q = rw q at list-is
 
     pub list-fits : x ≡ clear → Fits w64 (w + k)
     list-fits q = let l = (room_in_lem w n k (sym xe ∙ q)).limit in omega arith
@@ -228,19 +229,25 @@ pub ruleset value_given = (value-one, value-many, value-unknown, column-none, co
 
 -- ---- the values of a record: column j, whose value stands at i
 
-pub column-long : (p : List ℕ) (j : ℕ) (f : Form) (s : List ℕ) (r : Walk) (k : ℕ) → r ≡ step_of p j f s → r ≡ Ends k
-    → k ≡ width_of (step_of p j f s)
-column-long p j f s r k e z = rw (← e, z)
+width-within : (p : List ℕ) (j : ℕ) (f : Form) (s : List ℕ) → width_of (step_of p j f s) ≤ length s
+width-within p j f s = go (step_of p j f s) refl
+  where
+    go : (r : Walk) → step_of p j f s ≡ r → width_of r ≤ length s
+    go (Ends w) e = step-within p j f s w e
+    go (Broken q) e = omega arith
 
-pub column-within : (p : List ℕ) (j : ℕ) (f : Form) (s : List ℕ) (r : Walk) (k : ℕ) → r ≡ step_of p j f s → r ≡ Ends k
-    → k ≤ length s
-column-within p j f s r k e z = step-within p j f s k (sym e ∙ z)
+module _ (p : List ℕ) (j : ℕ) (f : Form) (s : List ℕ) (r : Walk) (e : r ≡ step_of p j f s) where
+  pub column-long : (k : ℕ) → k ≡ result_unwrap_or r 0 → k ≡ width_of (step_of p j f s)
+  column-long k z = rw (← e, z) (same r)
+    where
+      same : (r : Walk) → result_unwrap_or r 0 ≡ width_of r
+      same (Ends w) = refl
+      same (Broken q) = refl
 
-pub column-broken : (p : List ℕ) (j : ℕ) (f : Form) (s : List ℕ) (r : Walk) (q : ℕ) → r ≡ step_of p j f s
-    → r ≡ Broken q → 0 ≡ width_of (step_of p j f s)
-column-broken p j f s r q e z = rw (← e, z)
+  pub column-within : (k : ℕ) → k ≡ result_unwrap_or r 0 → k ≤ length s
+  column-within k z = rw (column-long k z) (width-within p j f s)
 
-pub ruleset column_cases = (column-long, column-within, column-broken)
+pub ruleset column_cases = (column-long, column-within)
 
 pub part-to : (s : List ℕ) (i k : ℕ) → i ≤ length s → k ≤ length (take (length s - i) (drop i s)) → i + k ≤ length s
 part-to s i k h l = let a = ap length (rest_all s i h) in let b = length-drop i s in omega arith
@@ -254,45 +261,59 @@ module _ (p s : List ℕ) (j f i w n k : ℕ) (l : i ≤ length s)
   long-is : k ≡ column_long j p f (drop i s)
   long-is = e ∙ ap (λ (x : List ℕ). width_of (step_of p j (form_at f) x)) (rest_all s i l)
 
-  pub next-given : (v : Verdict) → v ≡ column_given (form_at f) (take (i + k - i) (drop i s)) (w + i) n
-      → record { verdict = v; end = i + k } ≡ next_given p j f s i w n
+  both-ways : (v : Verdict) → v ≡ column_given (form_at f) (take (i + k - i) (drop i s)) (w + i) n
+      → answered v (i + k) ≡ next_given p j f s i w n
   unfolding next_given
-  next-given v q =
+  both-ways v q =
       let a : i + k - i ≡ k = omega arith in
       rw (q, a, long-is)
 
-pub ruleset next_cases = (part-to, part_in, next-given)
+  module _ (v : Verdict) (q : v ≡ column_given (form_at f) (take (i + k - i) (drop i s)) (w + i) n) where
+    pub next-refused : (r : Refusal) → v ≡ Refused r → Err r ≡ next_given p j f s i w n
+    next-refused r z = ap (λ (x : Verdict). answered x (i + k)) (sym z) ∙ both-ways v q
+
+    pub next-given : v ≡ clear → Ok (i + k) ≡ next_given p j f s i w n
+    next-given z = ap (λ (x : Verdict). answered x (i + k)) (sym z) ∙ both-ways v q
+
+pub ruleset next_cases = (part-to, part_in, next-refused, next-given)
 
 module _ (p forms s : List ℕ) (w n i j : ℕ) (all : Verdict)
     (inv : head_from (drop j forms) j p (w + i) n (drop i s) ≡ all) where
-  module _ (h : j < length forms) (g : Given) (e : g ≡ next_given p j (get_or forms j 0) s i w n) where
+  module _ (h : j < length forms) (g : Answer ℕ) (e : g ≡ next_given p j (get_or forms j 0) s i w n) where
     abbrev k : ℕ
     k = column_long j p (get_or forms j 0) (drop i s)
 
-    verdict-is : g.verdict ≡ column_given (form_at (get_or forms j 0)) (take k (drop i s)) (w + i) n
-    unfolding next_given
-    verdict-is = ap (λ (x : Given). x.verdict) e
+    abbrev given : Verdict
+    given = column_given (form_at (get_or forms j 0)) (take k (drop i s)) (w + i) n
 
-    end_is : g.end ≡ i + k
+    given-is : g ≡ answered given (i + k)
     unfolding next_given
-    end_is = ap (λ (x : Given). x.end) e
+    given-is = e
 
-    value-is : g.verdict then head_from (drop (j + 1) forms) (j + 1) p (w + g.end) n (drop g.end s) ≡ all
+    value-is : given then head_from (drop (j + 1) forms) (j + 1) p (w + (i + k)) n (drop (i + k) s) ≡ all
     unfolding head_from
     value-is =
         let b = drop-drop k i s in
         let c : w + i + k ≡ w + (i + k) = omega arith in
-        rw (verdict-is, end_is, ← b, ← c)
-        (ap (λ (m : ℕ). column_given (form_at (get_or forms j 0)) (take k (drop i s)) (w + i) n
-        then head_from (drop (j + 1) forms) m p (w + i + k) n (drop k (drop i s))) (add-one j)
+        rw (← b, ← c)
+        (ap (λ (m : ℕ). given then head_from (drop (j + 1) forms) m p (w + i + k) n (drop k (drop i s))) (add-one j)
         ∙ ap (λ (x : List ℕ). head_from x j p (w + i) n (drop i s)) (sym (drop-next forms j h)) ∙ inv)
 
-    pub values-refused : (x : Refusal) → g.verdict ≡ Refused x → g.verdict ≡ all
-    values-refused x y = y ∙ rw y at value-is
+    pub values-refused : (x : Refusal) → g ≡ Err x → Refused x ≡ all
+    values-refused x y = rw (answered-refused given (i + k) x (sym given-is ∙ y)) at value-is
 
-    pub values-next : g.verdict ≡ clear
-        → head_from (drop (j + 1) forms) (j + 1) p (w + g.end) n (drop g.end s) ≡ all
-    values-next y = rw y at value-is
+    pub values-next : (m : ℕ) → g ≡ Ok m → head_from (drop (j + 1) forms) (j + 1) p (w + m) n (drop m s) ≡ all
+    values-next m y =
+        let a = answered-done given (i + k) m (sym given-is ∙ y) in
+        rw (← a.1) (rw a.0 at value-is)
+
+    pub values-within : (m : ℕ) → g ≡ Ok m → i ≤ length s → m ≤ length s
+    values-within m y l =
+        let a = answered-done given (i + k) m (sym given-is ∙ y) in
+        let b = width-within p j (form_at (get_or forms j 0)) (drop i s) in
+        let c = length-drop i s in
+        let d = a.1 in
+        omega arith
 
   pub values-done : length forms ≤ j → clear ≡ all
   unfolding head_from
@@ -302,14 +323,14 @@ pub values-start : (p forms s : List ℕ) (w n : ℕ)
     → head_from (drop 0 forms) 0 p (w + 0) n (drop 0 s) ≡ head_from forms 0 p w n s
 values-start p forms s w n = ap (λ (m : ℕ). head_from forms 0 p m n s) (add-zero w)
 
-pub ruleset values_given = (values-refused, values-next, values-done)
+pub ruleset values_given = (values-refused, values-next, values-within, values-done)
 
 pub ruleset values_begun = (values-start)
 
 -- ---- the whole
 
 module _ (forms xs : List ℕ) (w n k : ℕ) (z : k ≡ room (length forms)) (v : Verdict) (e : v ≡ room_at w n (4 + k)) where
-  pub head-refused : (r : Refusal) → v ≡ Refused r → v ≡ head_given forms w n xs
+  pub head-refused : (r : Refusal) → v ≡ Refused r → Refused r ≡ head_given forms w n xs
   unfolding head_given
   head-refused r q = rw (← z, ← e, q)
 

@@ -1,5 +1,5 @@
 -- The ways of the code over a line, on plain values.
-use Rattle.std.specs.Prelude.{ℕ, suc, ◌+◌, ◌-◌, ◌%◌, ◌≤◌, ◌<◌, ◌≡◌, Bool, true, cond, eqb, ltb, take, replicate}
+use Rattle.std.specs.Prelude.{Ok, Err, ℕ, suc, ◌+◌, ◌-◌, ◌%◌, ◌≤◌, ◌<◌, ◌≡◌, Bool, true, cond, eqb, ltb, take, replicate}
 use Rattle.std.proofs.Common.{add-zero, add-one, ◌∙◌, drop_of_length-le, Fits, eq-eqb, ne_eqb, lt-ltb, le-ltb}
 use native.Mathlib.Omega.{arith}
 use Rattle.std.proofs.Math.Path.{refl, sym, ap, ap₂}
@@ -14,9 +14,9 @@ use Rattle.octets.specs.Splice.{splice, splice-nil, stored, stored-in}
 use Rattle.octets.specs.Stores.{laid, laid-long, stored-before}
 use Rattle.answers.specs.Numbers.{breaks_rule, most_opened}
 use Rattle.answers.specs.declared.Refusal.{Refusal}
-use Rattle.answers.specs.declared.Verdict.{Verdict}
-use Rattle.answers.specs.declared.Verdict.TheVariants.{Clear as clear, Refused}
-use Rattle.answers.specs.Verdict.{refused}
+use Rattle.answers.specs.Verdict.{Answer, Verdict}
+use Rattle.answers.specs.Verdict.{clear, Refused}
+use Rattle.answers.specs.Verdict.{refusal}
 use Rattle.presence.specs.Presence as Presence
 use Rattle.presence.specs.Presence.{room, set_bit}
 use Rattle.octets.specs.Word.{le_of}
@@ -29,7 +29,7 @@ use Rattle.writing.specs.State.{room_at, room_in_lem}
 use Rattle.sheet.specs.Digits.{number_in}
 use Rattle.sheet.specs.Reading.{content_in}
 use Rattle.importing.specs.Fields.{field_long, field_in, field_behind, laid_from, laid_row, line_long}
-use Rattle.importing.specs.Lines.{no_line, onward, key_held, field_size, line_from, record_from, values_put, line_put}
+use Rattle.importing.specs.Lines.{onward, key_held, field_size, line_from, record_from, values_put, line_put}
 use Rattle.importing.specs.Marked.{marks_on, marks-on, presence-front}
 use Rattle.importing.specs.declared.lines.Line.{Line}
 use Rattle.importing.specs.declared.lines.Put.{Put}
@@ -109,7 +109,7 @@ pub ruleset field_there = (field-there, field-last, field-from, bound-next, boun
 
 -- ---- judged
 
-module _ (s codes flags : List ℕ) (held : Bool) (k n i j : ℕ) (line : Line)
+module _ (s codes flags : List ℕ) (held : Bool) (k n i j : ℕ) (line : Answer Line)
     (inv : line_from (drop j codes) (drop j flags) held k n i (drop i s) ≡ line) where
   module _ (bound : i + line_long (drop j codes) (drop i s) ≤ length s) (h : j < length codes) (end : ℕ)
       (e : end ≡ i + field_long false (drop i s)) (long : ℕ)
@@ -128,8 +128,8 @@ module _ (s codes flags : List ℕ) (held : Bool) (k n i j : ℕ) (line : Line)
         rw (q, a, ← b, ← z, ← f, ← g)
         (ap (λ (cs : List ℕ). line_from cs (drop j flags) held k n i (drop i s)) (sym (drop-next codes j h)) ∙ inv)
 
-    pub line_refused : (r : Refusal) (x : Line) → v ≡ Refused r → x ≡ no_line v → x ≡ line
-    line_refused r x z y = y ∙ ap no_line z ∙ rw z at step
+    pub line_refused : (r : Refusal) → v ≡ Refused r → Err r ≡ line
+    line_refused r z = rw z at step
 
     module _ (z : v ≡ clear) where
       pub line-next : (f : ℕ) (b : Bool) → f ≡ get_or flags j 0 → b ≡ key_held held f long
@@ -145,37 +145,37 @@ module _ (s codes flags : List ℕ) (held : Bool) (k n i j : ℕ) (line : Line)
         ap (λ (cs : List ℕ). line_from cs (drop j flags) held k n i (drop i s)) (sym (drop_of_length-le codes {i = j} h))
         ∙ inv
 
-    pub line-done : held ≡ true → record { verdict = clear; written = k; end = i + 1 } ≡ line
+    pub line-done : held ≡ true → Ok (record { written = k; end = i + 1 }) ≡ line
     unfolding line_from
     line-done z = rw z at last
 
-    pub line-keyless : (v : Verdict) (x : Line) → held ≡ false → v ≡ refused breaks_rule 0 → x ≡ no_line v → x ≡ line
+    pub line-keyless : (x : Answer Line) → held ≡ false → x ≡ Err (refusal breaks_rule 0) → x ≡ line
     unfolding line_from
-    line-keyless v x z q y = y ∙ ap no_line q ∙ rw z at last
+    line-keyless x z q = q ∙ rw z at last
 
 pub ruleset line_judged = (line_refused, line-next, line-fits, line-done, line-keyless)
 
 -- ---- as a record
 
-module _ (codes flags : List ℕ) (w n opened at : ℕ) (xs : List ℕ) (x : Line) where
-  pub record-many : most_opened ≤ opened → (v : Verdict) → v ≡ refused breaks_rule 0 → x ≡ no_line v
+module _ (codes flags : List ℕ) (w n opened at : ℕ) (xs : List ℕ) (x : Answer Line) where
+  pub record-many : most_opened ≤ opened → x ≡ Err (refusal breaks_rule 0)
       → x ≡ record_from codes flags w n opened at xs
   unfolding record_from
-  record-many h v e q = q ∙ ap no_line e ∙ rw (le-ltb opened most_opened h)
+  record-many h q = q ∙ rw (le-ltb opened most_opened h)
 
   module _ (h : opened < most_opened) (k : ℕ) (z : k ≡ room (length codes)) (v : Verdict) (e : v ≡ room_at w n (4 + k))
     where
-      pub record-refused : (r : Refusal) → v ≡ Refused r → x ≡ no_line v → x ≡ record_from codes flags w n opened at xs
+      pub record-refused : (r : Refusal) → v ≡ Refused r → Err r ≡ record_from codes flags w n opened at xs
       unfolding record_from
-      record-refused r y q = q ∙ rw (lt-ltb opened most_opened h, ← z, ← e, y)
+      record-refused r y = rw (lt-ltb opened most_opened h, ← z, ← e, y)
 
       pub record-opened : v ≡ clear → x ≡ line_from codes flags true (w + (4 + k)) n at xs
           → x ≡ record_from codes flags w n opened at xs
       unfolding record_from
       record-opened y q = q ∙ rw (lt-ltb opened most_opened h, ← z, ← e, y)
 
-      pub record-fits : v ≡ clear → Fits w64 (w + (4 + k))
-      record-fits y = let r = (room_in_lem w n (4 + k) (sym e ∙ y)).limit in omega arith
+pub record-fits : (w n k : ℕ) (v : Verdict) → v ≡ room_at w n (4 + k) → v ≡ clear → Fits w64 (w + (4 + k))
+record-fits w n k v e y = let r = (room_in_lem w n (4 + k) (sym e ∙ y)).limit in omega arith
 
 pub ruleset record_judged = (record-many, record-refused, record-opened, record-fits)
 

@@ -1,6 +1,6 @@
 -- The ways of the code over all lines, on plain values: line by line what the writer's calls answer is what they answer
 -- to the sheet's rows, and what is laid down is their octets.
-use Rattle.std.specs.Prelude.{ℕ, suc, ◌+◌, ◌-◌, ◌^◌, ◌≤◌, ◌<◌, ◌≡◌, Bool, true, not, cond, ltb, drop, get_or}
+use Rattle.std.specs.Prelude.{Ok, Err, ℕ, suc, ◌+◌, ◌-◌, ◌^◌, ◌≤◌, ◌<◌, ◌≡◌, Bool, true, not, cond, ltb, drop, get_or}
 use Rattle.std.proofs.Common.{add-zero, ◌∙◌, length-drop, drop_of_length-le, drop-drop, Fits}
 use native.Mathlib.Omega.{arith}
 use Rattle.std.proofs.Math.Path.{refl, sym, ap, ap₂}
@@ -15,9 +15,9 @@ use Rattle.octets.specs.Splice.{splice, splice-nil}
 use Rattle.octets.specs.Stores.{laid, laid-long}
 use Rattle.answers.specs.Numbers.{breaks_rule, most_octets, most_opened}
 use Rattle.answers.specs.declared.Refusal.{Refusal}
-use Rattle.answers.specs.declared.Verdict.{Verdict}
-use Rattle.answers.specs.declared.Verdict.TheVariants.{Clear as clear, Refused}
-use Rattle.answers.specs.Verdict.{refused, ◌then◌, need, apart, unmet, no-clear}
+use Rattle.answers.specs.Verdict.{Answer, Verdict, refusal, same-value, no-value}
+use Rattle.answers.specs.Verdict.{clear, Refused}
+use Rattle.answers.specs.Verdict.{refused, ◌then◌, need, apart, unmet}
 use Rattle.presence.specs.Presence.{room}
 use Rattle.value.specs.Types.{number_of, form_in, form_at, form_of}
 use Rattle.entry.specs.Present.{Row}
@@ -32,7 +32,7 @@ use Rattle.sheet.specs.Values.{by-type}
 use Rattle.sheet.specs.One.{Exported}
 use Rattle.importing.specs.Fields.{field_long, field_in, field_behind, laid_from, laid_row, line_long}
 use Rattle.importing.specs.Given.{pieces_of, row_pieces, pieces_at, keys_in, record_given, rows_given}
-use Rattle.importing.specs.Lines.{no_line, onward, key_held, line_from, record_from, line_put}
+use Rattle.importing.specs.Lines.{onward, key_held, line_from, record_from, line_put}
 use Rattle.importing.specs.LineCases.{laid-some, row-parts}
 use Rattle.importing.specs.Tied.{Taken, rows_of, NextLine, next-line, no_lines}
 use Rattle.importing.specs.declared.lines.Line.{Line}
@@ -58,10 +58,13 @@ records_put w rows = record { written = w + length (rows_octets rows); count = l
 
 -- ---- a line
 
+same-refusal : {r x : Refusal} → ◌≡◌ {A = Answer Line} (Err r) (Err x) → r ≡ x
+same-refusal e = cc
+
 -- how the code answers a verdict
-abbrev pub line_by : Verdict → ℕ → ℕ → Line
-line_by clear w e = record { verdict = clear; written = w; end = e }
-line_by (Refused r) w e = no_line (Refused r)
+abbrev pub line_by : Verdict → ℕ → ℕ → Answer Line
+line_by (Ok _) w e = Ok (record { written = w; end = e })
+line_by (Refused r) w e = Err r
 
 -- a value of a type that can be exported is given by one call
 pieces-one : (code : ℕ) (v : List ℕ) → is_exported code ≡ true → pieces_of (form_of code) v ≡ length v ∷ []
@@ -93,9 +96,10 @@ missed true false keys = refl
 missed false true keys = refl
 missed false false keys = refl
 
-line-close : (held : Bool) (w n at : ℕ) → cond held (record { verdict = clear; written = w; end = at + 1 })
-    (no_line (refused breaks_rule 0)) ≡ line_by (need (cond held true false) breaks_rule 0) (w + 0) (at + 1)
-line-close true w n at = ap (λ (m : ℕ). record { verdict = clear; written = m; end = at + 1 }) (sym (add-zero w))
+line-close : (held : Bool) (w n at : ℕ)
+    → ◌≡◌ {A = Answer Line} (cond held (Ok (record { written = w; end = at + 1 })) (Err (refusal breaks_rule 0)))
+    (line_by (need (cond held true false) breaks_rule 0) (w + 0) (at + 1))
+line-close true w n at = ap (λ (m : ℕ). Ok (record { written = m; end = at + 1 })) (sym (add-zero w))
 line-close false w n at = refl
 
 abbrev Lines : List ℕ → List ℕ → Type 0
@@ -151,7 +155,7 @@ module _ (c : ℕ) (cs flags : List ℕ) (ih : Lines cs (drop 1 flags)) (held : 
           ≡ line_by ((r then pieces_at (w + length v) n (row_pieces ss rest))
           then need (cond held (keys_in ss rest) false) breaks_rule 0)
           (w + length (v ++ values_of rest)) (at + line_long (c ∷ cs) xs)
-      go clear e =
+      go (Ok _) e =
           let r = room_in_lem w n (length v) e in
           let a : w + length v + length (values_of rest) ≡ w + length (v ++ values_of rest) =
           (let b = length-append v (values_of rest) in omega arith) in
@@ -186,7 +190,7 @@ record-given codes flags w n k at xs h =
         → onward r (line_from codes flags true (w + hd) n at xs)
         ≡ line_by (r then pieces_at (w + hd) n (row_pieces (slots_by codes flags) row)
         then need (keys_in (slots_by codes flags) row) breaks_rule 0) (w + length (row_octets row)) (at + line_long codes xs)
-    inner clear e =
+    inner (Ok _) e =
         let r = room_in_lem w n hd e in
         let a : w + hd + length (values_of row) ≡ w + length (row_octets row) =
         (let b = row-parts codes xs in omega arith) in
@@ -199,7 +203,7 @@ record-given codes flags w n k at xs h =
         → onward v (onward (room_at w n hd) (line_from codes flags true (w + hd) n at xs))
         ≡ line_by (v then room_at w n hd then pieces_at (w + hd) n (row_pieces (slots_by codes flags) row)
         then need (keys_in (slots_by codes flags) row) breaks_rule 0) (w + length (row_octets row)) (at + line_long codes xs)
-    go clear = inner (room_at w n hd) refl
+    go (Ok _) = inner (room_at w n hd) refl
     go (Refused x) = refl
 
 -- ---- the loop that judges: the rest of the text stands at `at`
@@ -222,7 +226,8 @@ module _ (s codes flags : List ℕ) (at k n opened : ℕ) (all : Verdict)
     rest-is : drop (line_long codes (drop at s)) (drop at s) ≡ drop end s
     rest-is = drop-drop (line_long codes (drop at s)) at s
 
-    module _ (line : Line) (e : line ≡ record_from codes flags k n opened at (drop at s)) (ex : Exported codes) where
+    module _ (line : Answer Line) (e : line ≡ record_from codes flags k n opened at (drop at s))
+        (ex : Exported codes) where
       line-is : line
           ≡ line_by (record_given (slots_by codes flags) k n opened row) (k + length (row_octets row)) end
       line-is = e ∙ record-given codes flags k n opened at (drop at s) ex
@@ -238,50 +243,56 @@ module _ (s codes flags : List ℕ) (at k n opened : ℕ) (all : Verdict)
           ∙ ap (rows_given (slots_by codes flags) k n opened) (sym next.rows) ∙ inv
 
       by-verdict : {X : Type 0} → ((r : Refusal) → record_given (slots_by codes flags) k n opened row ≡ Refused r
-          → line.verdict ≡ Refused r → X)
-          → (record_given (slots_by codes flags) k n opened row ≡ clear → line.verdict ≡ clear
-          → line.written ≡ k + length (row_octets row) → line.end ≡ end → X) → X
+          → line ≡ Err r → X)
+          → (record_given (slots_by codes flags) k n opened row ≡ clear
+          → line ≡ Ok (record { written = k + length (row_octets row); end = end }) → X) → X
       by-verdict {X} f g = go (record_given (slots_by codes flags) k n opened row) refl line-is
         where
           go : (v : Verdict) → record_given (slots_by codes flags) k n opened row ≡ v
               → line ≡ line_by v (k + length (row_octets row)) end → X
-          go clear q z =
-              g q (ap (λ (l : Line). l.verdict) z) (ap (λ (l : Line). l.written) z) (ap (λ (l : Line). l.end) z)
-          go (Refused r) q z = f r q (ap (λ (l : Line). l.verdict) z)
+          go (Ok _) q z = g q z
+          go (Refused r) q z = f r q z
 
-      pub lines-refused : (r : Refusal) → line.verdict ≡ Refused r → line.verdict ≡ all
+      pub lines-refused : (r : Refusal) → line ≡ Err r → Err r ≡ all
       lines-refused r z =
-          by-verdict (λ x q y. y ∙ rw q at step) (λ q y a b. no-clear (sym z ∙ y))
+          by-verdict (λ x q y. rw (same-refusal (sym z ∙ y)) (rw q at step)) (λ q y. no-value (sym z ∙ y))
 
-      module _ (z : line.verdict ≡ clear) where
-        pub lines_next : rows_given (slots_by codes flags) line.written n (opened + 1)
-            (rows_of codes (drop line.end s)) ≡ all
-        lines_next = by-verdict (λ x q y. no-clear (sym y ∙ z)) (λ q y a b. rw (a, b) (rw q at step))
+      module _ (l : Line) (z : line ≡ Ok l) where
+        by-clear : {X : Type 0} → (record_given (slots_by codes flags) k n opened row ≡ clear
+            → l.written ≡ k + length (row_octets row) → l.end ≡ end → X) → X
+        by-clear g =
+            by-verdict (λ x q y. no-value (sym y ∙ z))
+            (λ q y. let p = same-value (sym z ∙ y) in
+            g q (ap (λ (x : Line). x.written) p) (ap (λ (x : Line). x.end) p))
 
-        pub lines-taken : Taken codes (drop line.end s)
-        lines-taken = by-verdict (λ x q y. no-clear (sym y ∙ z)) (λ q y a b. rw (b, ← rest-is) next.taken)
+        pub lines_next : rows_given (slots_by codes flags) l.written n (opened + 1)
+            (rows_of codes (drop l.end s)) ≡ all
+        lines_next = by-clear (λ q a b. rw (a, b) (rw q at step))
 
-        pub lines_end : line.end ≤ length s
-        lines_end = by-verdict (λ x q y. no-clear (sym y ∙ z)) (λ q y a b. rw b line-within)
+        pub lines-taken : Taken codes (drop l.end s)
+        lines-taken = by-clear (λ q a b. rw (b, ← rest-is) next.taken)
 
-        pub lines-less : at < line.end
-        lines-less = by-verdict (λ x q y. no-clear (sym y ∙ z)) (λ q y a b. let m = next.some in rw b (omega arith))
+        pub lines_end : l.end ≤ length s
+        lines_end = by-clear (λ q a b. rw b line-within)
 
-        pub lines-measure : length s - line.end < length s - at
+        pub lines-less : at < l.end
+        lines-less = by-clear (λ q a b. let m = next.some in rw b (omega arith))
+
+        pub lines-measure : length s - l.end < length s - at
         lines-measure = let m = lines-less in omega arith
 
         pub lines-count : (m : ℕ) → opened + length (rows_of codes (drop at s)) ≡ m
-            → opened + 1 + length (rows_of codes (drop line.end s)) ≡ m
+            → opened + 1 + length (rows_of codes (drop l.end s)) ≡ m
         lines-count m c =
-            by-verdict (λ x q y. no-clear (sym y ∙ z))
-            (λ q y a b. let d = ap length (next.rows ∙ ap (λ (l : List ℕ). row ∷ rows_of codes l) rest-is) in
+            by-clear
+            (λ q a b. let d = ap length (next.rows ∙ ap (λ (l : List ℕ). row ∷ rows_of codes l) rest-is) in
             rw b (omega arith))
 
         pub lines_fit : Fits w64 (opened + 1)
         unfolding record_given
         lines_fit =
-            by-verdict (λ x q y. no-clear (sym y ∙ z))
-            (λ q y a b. let u = apart (need (ltb opened most_opened) breaks_rule 0) _ q in
+            by-clear
+            (λ q a b. let u = apart (need (ltb opened most_opened) breaks_rule 0) _ q in
             let v = ltb-true opened most_opened (unmet _ breaks_rule 0 u.0) in omega arith)
 
 pub ruleset lines_judged = (line-within, lines-refused, lines_next, lines-taken, lines_end, lines-measure, lines-count)
@@ -311,10 +322,10 @@ module _ (s codes flags : List ℕ) (at k w n opened : ℕ)
       let a = ap length none_left in
       rw (rows-clear, ne_eqb (length (rows_of codes s)) 0 (λ e. omega arith))
 
-pub lines-told : (codes flags : List ℕ) (w n : ℕ) (rows : List Row) (v : Verdict) (r : Refusal) → v ≡ Refused r
-    → v ≡ rows_given (slots_by codes flags) w n 1 rows → v ≡ lines_given codes flags w n rows
+pub lines-told : (codes flags : List ℕ) (w n : ℕ) (rows : List Row) (r : Refusal)
+    → Refused r ≡ rows_given (slots_by codes flags) w n 1 rows → Refused r ≡ lines_given codes flags w n rows
 unfolding lines_given
-lines-told codes flags w n rows v r q e = q ∙ rw (sym e ∙ q)
+lines-told codes flags w n rows r e = rw (← e)
 
 pub ruleset lines_ended = (lines_none, lines-some, lines-told)
 

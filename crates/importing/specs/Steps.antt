@@ -1,12 +1,11 @@
 -- The call as its code goes on once the first line is read: s are the lines behind it, of these tags, and stand at
 -- `width`.
-use Rattle.std.specs.Prelude.{ℕ, ◌+◌, ◌-◌, List, [], ◌++◌, length, replicate}
+use Rattle.std.specs.Prelude.{Err, Ok, ℕ, ◌+◌, ◌-◌, List, [], ◌++◌, length, replicate}
 use Rattle.octets.specs.Splice.{splice, stored}
-use Rattle.answers.specs.declared.Verdict.{Verdict}
-use Rattle.answers.specs.declared.Verdict.TheVariants.{Clear as clear, Refused}
+use Rattle.answers.specs.Verdict.{Verdict}
+use Rattle.answers.specs.Verdict.{Refused}
 use Rattle.answers.specs.Verdict.{◌then◌, kept}
-use Rattle.answers.specs.declared.Made.{Made}
-use Rattle.answers.specs.declared.Made.TheVariants as made
+use Rattle.answers.specs.Made.{Made}
 use Rattle.answers.specs.Made.{answered}
 use Rattle.entry.specs.Slots.{slots_from}
 use Rattle.book.specs.Rows.{rows_octets}
@@ -50,8 +49,8 @@ given_octets tags flags ht hf hrec s d =
 
 -- what is asked of the lines comes first
 abbrev pub asks_first : Verdict → Made → Made
-asks_first clear m = m
-asks_first (Refused r) m = made.Refused r
+asks_first (Ok _) m = m
+asks_first (Refused r) m = Err r
 
 unfoldable pub rest_answer : List ℕ → List ℕ → List ℕ → List ℕ → List ℕ → ℕ → List ℕ → List ℕ → Made
 rest_answer tags flags ht hf hrec width s d =

@@ -6,7 +6,7 @@ use Rattle.std.proofs.Math.Decide.{ℕ_discrete}
 use Rattle.std.proofs.Math.Option.{Option, none, some}
 use Rattle.std.proofs.Math.Seq.{append_snoc, drop-append_seam}
 use Rattle.octets.specs.Cases.{taken}
-use Rattle.answers.specs.declared.Walk.TheVariants.{Ends, Broken}
+use Rattle.answers.specs.Walk.{Ends, Broken}
 use Rattle.whole.specs.Number.{encode_number}
 use Rattle.entry.specs.Present.{Row}
 use Rattle.entry.specs.Record.{unlike}

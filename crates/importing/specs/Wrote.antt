@@ -1,6 +1,6 @@
 -- The book that is written, where nothing is refused: tables, header record and rows laid down one behind the other,
 -- and finished, are the book of the sheet's table.
-use Rattle.std.specs.Prelude.{ℕ, suc, ◌+◌, ◌%◌, ◌/◌, ◌^◌, ◌≤◌, ◌<◌, ◌≡◌, true, false, eqb, leb, take, drop, get_or}
+use Rattle.std.specs.Prelude.{Ok, ℕ, suc, ◌+◌, ◌%◌, ◌/◌, ◌^◌, ◌≤◌, ◌<◌, ◌≡◌, true, false, eqb, leb, take, drop, get_or}
 use Rattle.std.proofs.Common.{arith, ap₂, ◌∙◌, drop_of_length-le, Fits}
 use Rattle.std.proofs.Math.Path.{refl, sym, ap}
 use mathlib.Core.List.{List, [], ◌∷◌, ◌++◌, append-nil, append_assoc}
@@ -12,8 +12,8 @@ use Rattle.octets.specs.Splice.{stored, stored-in, length-stored}
 use Rattle.octets.specs.Stores.{front-stored}
 use Rattle.octets.specs.Word.{word_of}
 use Rattle.answers.specs.Numbers.{breaks_rule, breaks_form, cut_short, wrong_size}
-use Rattle.answers.specs.declared.Verdict.{Verdict}
-use Rattle.answers.specs.declared.Verdict.TheVariants.{Clear as clear, Refused}
+use Rattle.answers.specs.Verdict.{Verdict}
+use Rattle.answers.specs.Verdict.{clear, Refused}
 use Rattle.answers.specs.Verdict.{◌then◌, need, apart, unmet, then-clear}
 use Rattle.presence.specs.Presence.{room}
 use Rattle.value.specs.Types.{number_of, form_of}
@@ -102,7 +102,7 @@ pub record HeadIs (ss : List Slot) (hrec : List ℕ) : Type 0 where
   pub reads : hrec ≡ row_octets (row_in ss hrec)
 
 was-clear : (v : Verdict) → is_clear v ≡ true → v ≡ clear
-was-clear clear q = refl
+was-clear (Ok _) q = refl
 was-clear (Refused r) q = unlike q
 
 pub offered-is : (ss : List Slot) (hrec : List ℕ) → Octets hrec → offered_in ss hrec ≡ clear → HeadIs ss hrec

@@ -1,5 +1,5 @@
 // A field of a line where it stands: its end, what it holds, and the value that is laid down for it. All that is put
-// has room: it was measured before.
+// has room: it was measured before. Places count from the line's start, as the line's measures do.
 ghost use Rattle.std.specs.Prelude.{◌≡◌, false, cond, [], ◌∷◌, ◌+◌, ◌-◌, ◌*◌, ◌%◌, ◌≤◌, ◌<◌, length, drop};
 ghost use Rattle.octets.specs.Octets.{octet_at};
 ghost use Rattle.octets.specs.Splice.{splice};
@@ -17,14 +17,8 @@ fn plain_end(s: &[u8], at: usize) -> usize
     requires { at ≤ length s.now }
     ensures { (result ≡ at + plain_long (drop at s.now)) × (result ≤ length s.now) }
 {
-    let mut i = at;
-    while i < s.len() {
-        if is_mark(s[i]) {
-            return i;
-        }
-        i += 1;
-    }
-    i
+    let rest = &s[at..];
+    at + rest.iter().position(|x| is_mark(*x)).unwrap_or(rest.len())
 }
 
 // The first quote from `at` on, or the end of `s`.
@@ -32,14 +26,8 @@ fn quote_from(s: &[u8], at: usize) -> usize
     requires { at ≤ length s.now }
     ensures { (result ≡ at + quoted_long (drop at s.now)) × (result ≤ length s.now) }
 {
-    let mut i = at;
-    while i < s.len() {
-        if s[i] == QUOTE {
-            return i;
-        }
-        i += 1;
-    }
-    i
+    let rest = &s[at..];
+    at + rest.iter().position(|x| *x == QUOTE).unwrap_or(rest.len())
 }
 
 // The first mark outside quotes from `at` on, or the end of `s`.
@@ -48,6 +36,7 @@ pub fn field_end(s: &[u8], at: usize) -> usize
     ensures { (result ≡ at + field_long false (drop at s.now)) × (result ≤ length s.now) }
 {
     let mut i = plain_end(s, at);
+    // No `for`: each turn passes all that stands between two quotes, and the next one begins behind it.
     while i < s.len() {
         if s[i] != QUOTE {
             return i;
@@ -65,44 +54,36 @@ pub fn field_end(s: &[u8], at: usize) -> usize
 
 // Whether x is a quote that isn't read: the first of two, or the one that closes; `second` says that it stands behind
 // such a one.
+#[tactic(auto, using(crate::specs::FieldCases::unread_cases))]
 fn is_unread(second: bool, x: u8) -> bool
     ensures { result ≡ unread_by second x }
 {
-    if second {
-        return false;
-    }
-    x == QUOTE
+    !second && x == QUOTE
 }
 
+#[tactic(auto, using(crate::specs::FieldCases::quoted_cases))]
 fn is_quoted(f: &[u8]) -> bool
     ensures { result ≡ is_quoted f.now }
 {
-    if f.len() < 1 {
-        return false;
-    }
-    f[0] == QUOTE
+    !f.is_empty() && f[0] == QUOTE
 }
 
 fn counted(unread: bool) -> usize
     ensures { (result ≡ cond unread 0 1) × (result ≤ 1) }
 {
-    if unread {
-        return 0;
-    }
-    1
+    usize::from(!unread)
 }
 
 // How many octets are read of what stands behind the quote that opens.
+#[tactic(auto, using(crate::specs::FieldCases::inner_long))]
 fn inner_long(s: &[u8]) -> usize
     ensures { (result ≡ length (unquoted false s.now)) × (result ≤ length s.now) }
 {
     let mut second = false;
     let mut k = 0;
-    let mut i = 0;
-    while i < s.len() {
-        second = is_unread(second, s[i]);
+    for x in s {
+        second = is_unread(second, *x);
         k += counted(second);
-        i += 1;
     }
     k
 }
@@ -130,17 +111,16 @@ fn put_one(out: &mut [u8], at: usize, x: u8, unread: bool) -> usize
     at + 1
 }
 
+#[tactic(auto, using(crate::specs::FieldCases::put_inner))]
 fn put_inner(out: &mut [u8], at: usize, s: &[u8])
     requires { at + length (unquoted false s.now) ≤ length out.old }
     ensures { out.new ≡ splice out.old at (unquoted false s.now) }
 {
     let mut second = false;
     let mut k = at;
-    let mut i = 0;
-    while i < s.len() {
-        second = is_unread(second, s[i]);
-        k = put_one(out, k, s[i], second);
-        i += 1;
+    for x in s {
+        second = is_unread(second, *x);
+        k = put_one(out, k, *x, second);
     }
 }
 
@@ -158,21 +138,12 @@ fn put_content(out: &mut [u8], at: usize, f: &[u8])
 
 // ---- numbers and booleans
 
-fn digit_of(x: u8) -> u64
-    ensures { (result ≡ x - 48) × (result < 256) }
-{
-    if x < 48 {
-        return 0;
-    }
-    (x - 48) as u64
-}
-
 // The low 32 bits of a number with one digit more.
 fn with_digit(a: u64, x: u8) -> u64
     requires { a < 4294967296 }
     ensures { (result ≡ (a * 10 + (x - 48)) % 4294967296) × (result < 4294967296) }
 {
-    (a * 10 + digit_of(x)) % 4294967296
+    (a * 10 + u64::from(x.saturating_sub(b'0'))) % 4294967296
 }
 
 // The same, unless the octet is unread.
@@ -180,35 +151,30 @@ fn with_octet(a: u64, x: u8, unread: bool) -> u64
     requires { a < 4294967296 }
     ensures { (result ≡ cond unread a ((a * 10 + (x - 48)) % 4294967296)) × (result < 4294967296) }
 {
-    if unread {
-        return a;
-    }
-    with_digit(a, x)
+    if unread { a } else { with_digit(a, x) }
 }
 
 // The low 32 bits of the number that digits say.
+#[tactic(auto, using(crate::specs::FieldCases::number_cases))]
 fn plain_number(s: &[u8]) -> u32
     ensures { result ≡ number_in s.now % 4294967296 }
 {
     let mut a: u64 = 0;
-    let mut i = 0;
-    while i < s.len() {
-        a = with_digit(a, s[i]);
-        i += 1;
+    for x in s {
+        a = with_digit(a, *x);
     }
     a as u32
 }
 
+#[tactic(auto, using(crate::specs::FieldCases::number_cases))]
 fn inner_number(s: &[u8]) -> u32
     ensures { result ≡ number_in (unquoted false s.now) % 4294967296 }
 {
     let mut second = false;
     let mut a: u64 = 0;
-    let mut i = 0;
-    while i < s.len() {
-        second = is_unread(second, s[i]);
-        a = with_octet(a, s[i], second);
-        i += 1;
+    for x in s {
+        second = is_unread(second, *x);
+        a = with_octet(a, *x, second);
     }
     a as u32
 }
@@ -225,7 +191,7 @@ fn number_in(f: &[u8]) -> u32
 fn octet_or_none(s: &[u8], i: usize) -> u8
     ensures { result ≡ octet_at s.now i }
 {
-    if i < s.len() { s[i] } else { 0 }
+    s.get(i).copied().unwrap_or(0)
 }
 
 // The first octet read of what stands behind the quote that opens.
@@ -250,11 +216,7 @@ fn first_in(f: &[u8]) -> u8
 fn truth_in(f: &[u8]) -> u8
     ensures { result ≡ octet_at (content_in f.now) 0 - 48 }
 {
-    let x = first_in(f);
-    if x < 48 {
-        return 0;
-    }
-    x - 48
+    first_in(f).saturating_sub(b'0')
 }
 
 // ---- the value

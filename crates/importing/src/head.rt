@@ -10,21 +10,19 @@ ghost use Rattle.entry.specs.Read.{width_of};
 ghost use Rattle.importing.specs.Given.{elements_of, pieces_of, pieces_at};
 ghost use Rattle.importing.specs.Head.{forms_for, offered_in, column_given, next_given, head_from, head_given};
 
-use answers::{MOST_COLUMNS, Verdict, Walk, refuse};
+use answers::{Answer, MOST_COLUMNS, Verdict, refuse};
 use octets::word32;
 use value::{FORMS, LIST};
-use whole::Number;
 
 // The form of each tag's values, 0 behind the last.
+#[tactic(auto, using(crate::specs::HeadCases::forms_cases))]
 pub fn forms_of(tags: &[u32]) -> [u8; MOST_COLUMNS]
     requires { length tags.now ≤ most_columns }
     ensures { result ≡ padded (forms_for tags.now) }
 {
     let mut forms = [0u8; MOST_COLUMNS];
-    let mut i = 0;
-    while i < tags.len() {
-        forms[i] = value::form_of(tags[i]);
-        i += 1;
+    for (i, tag) in tags.iter().enumerate() {
+        forms[i] = value::form_of(*tag);
     }
     forms
 }
@@ -34,11 +32,11 @@ pub fn judge_offered(offered: &[u8], forms: &[u8], none: &[u32]) -> Verdict
     requires { none.now ≡ [] }
     ensures { result ≡ offered_in (slots_from forms.now []) offered.now }
 {
-    let Verdict::Clear = entry::judge_record(offered, 0, forms, none) else {
+    let Ok(()) = entry::judge_record(offered, 0, forms, none) else {
         return refuse(answers::BREAKS_FORM, 0);
     };
     if word32(offered, 0) as usize == offered.len() {
-        return Verdict::Clear;
+        return Ok(());
     }
     refuse(answers::BREAKS_FORM, 0)
 }
@@ -46,26 +44,22 @@ pub fn judge_offered(offered: &[u8], forms: &[u8], none: &[u32]) -> Verdict
 // ---- what the calls answer: w octets are written, n lent
 
 // `count` elements at the front of `s`.
+#[tactic(auto, using(crate::specs::HeadCases::element_cases))]
 fn judge_elements(kind: u8, s: &[u8], count: u32, w: usize, n: usize) -> Verdict
     requires { kind < 5 }
     ensures { result ≡ pieces_at w n (elements_of (kind_at kind) count s.now) }
 {
-    let mut left = count;
     let mut k = w;
     let mut i = 0;
-    while 0 < left {
-        let Walk::Ends(long) = value::walk_value(kind, &s[i..]) else {
-            return Verdict::Clear;
+    for _ in 0..count {
+        let Ok(long) = value::walk_value(kind, &s[i..]) else {
+            return Ok(());
         };
-        let v = writing::judge_room(k, n, long);
-        let Verdict::Clear = v else {
-            return v;
-        };
+        writing::judge_room(k, n, long)?;
         k += long;
         i += long;
-        left -= 1;
     }
-    Verdict::Clear
+    Ok(())
 }
 
 // The list `v`: its count, then its elements.
@@ -73,13 +67,10 @@ fn judge_list(kind: u8, v: &[u8], w: usize, n: usize) -> Verdict
     requires { kind < 5 }
     ensures { result ≡ pieces_at w n (pieces_of (many (kind_at kind)) v.now) }
 {
-    let Number::Is(count, k) = whole::read_number(v) else {
-        return Verdict::Clear;
+    let Some((count, k)) = whole::read_number(v) else {
+        return Ok(());
     };
-    let r = writing::judge_room(w, n, k);
-    let Verdict::Clear = r else {
-        return r;
-    };
+    writing::judge_room(w, n, k)?;
     judge_elements(kind, &v[k..], count, w + k, n)
 }
 
@@ -93,7 +84,7 @@ fn judge_value(form: u8, v: &[u8], w: usize, n: usize) -> Verdict
     if form < FORMS {
         return judge_list(form - LIST, v, w, n);
     }
-    Verdict::Clear
+    Ok(())
 }
 
 // The value `v` of a column, where it has one.
@@ -101,7 +92,7 @@ fn judge_column(form: u8, v: &[u8], w: usize, n: usize) -> Verdict
     ensures { result ≡ column_given (form_at form) v.now w n }
 {
     if v.len() < 1 {
-        return Verdict::Clear;
+        return Ok(());
     }
     judge_value(form, v, w, n)
 }
@@ -111,47 +102,30 @@ fn column_long(p: &[u8], j: usize, form: u8, s: &[u8]) -> usize
     ensures { (result ≡ width_of (step_of p.now j (form_at form) s.now))
         × (result ≤ length s.now) }
 {
-    let Walk::Ends(long) = entry::walk_column(p, j, form, s) else {
-        return 0;
-    };
-    long
+    entry::walk_column(p, j, form, s).unwrap_or(0)
 }
 
-// What the calls answer that give a column's value, and where it ends.
-#[derive(Clone, Copy)]
-struct Given {
-    verdict: Verdict,
-    end: usize,
-}
-
-// The value of column j, which stands at i of `s`.
-fn judge_next(p: &[u8], j: usize, form: u8, s: &[u8], i: usize, w: usize, n: usize) -> Given
+// The value of column j, which stands at i of `s`, and where it ends.
+fn judge_next(p: &[u8], j: usize, form: u8, s: &[u8], i: usize, w: usize, n: usize) -> Answer<usize>
     requires { (i ≤ length s.now) × (w ≤ most_octets) }
-    ensures { (result ≡ next_given p.now j form s.now i w n)
-        × (result.end ≤ length s.now) }
+    ensures { result ≡ next_given p.now j form s.now i w n }
 {
     let end = i + column_long(p, j, form, &s[i..]);
-    let verdict = judge_column(form, &s[i..end], w + i, n);
-    Given { verdict, end }
+    judge_column(form, &s[i..end], w + i, n)?;
+    Ok(end)
 }
 
 // The values of a good record: `p` has its presence octets, `s` is what follows them.
+#[tactic(auto, using(crate::specs::HeadCases::values_given, crate::specs::HeadCases::values_begun))]
 fn judge_values(p: &[u8], forms: &[u8], s: &[u8], w: usize, n: usize) -> Verdict
     requires { w ≤ most_octets }
     ensures { result ≡ head_from forms.now 0 p.now w n s.now }
 {
     let mut i = 0;
-    let mut j = 0;
-    while j < forms.len() {
-        let given = judge_next(p, j, forms[j], s, i, w, n);
-        let v = given.verdict;
-        let Verdict::Clear = v else {
-            return v;
-        };
-        i = given.end;
-        j += 1;
+    for (j, form) in forms.iter().enumerate() {
+        i = judge_next(p, j, *form, s, i, w, n)?;
     }
-    Verdict::Clear
+    Ok(())
 }
 
 // A good header record, opened and given; it asks for no key.
@@ -160,9 +134,6 @@ pub fn judge_head(offered: &[u8], forms: &[u8], w: usize, n: usize) -> Verdict
     ensures { result ≡ head_given forms.now w n offered.now }
 {
     let head = 4 + presence::octets_for(forms.len());
-    let v = writing::judge_room(w, n, head);
-    let Verdict::Clear = v else {
-        return v;
-    };
+    writing::judge_room(w, n, head)?;
     judge_values(&offered[4..head], forms, &offered[head..], w + head, n)
 }

@@ -10,7 +10,7 @@ mod lines;
 ghost use Rattle.std.specs.Prelude.{◌≡◌, [], ◌+◌, ◌*◌, ◌^◌, ◌≤◌, ◌<◌, length};
 ghost use Rattle.octets.specs.Splice.{stored};
 ghost use Rattle.answers.specs.Numbers.{most_octets, most_columns};
-ghost use Rattle.answers.specs.declared.Verdict.TheVariants.{Clear};
+ghost use Rattle.answers.specs.Verdict.{clear};
 ghost use Rattle.book.specs.Rows.{rows_octets};
 ghost use Rattle.book.specs.Book.{book_octets};
 ghost use Rattle.framing.specs.Frame.{finish_octets};
@@ -22,22 +22,21 @@ ghost use Rattle.importing.specs.From.{asked_at, from_answer, from_octets};
 ghost use Rattle.importing.specs.Steps.{codes_for, records_at, given_at, rest_book, given_answer, given_octets};
 ghost use Rattle.importing.specs.Steps.{rest_answer, rest_octets, front_put, laid_down, closed_by};
 
-use answers::{Made, Refusal, Verdict, Walk, refuse};
+use answers::{Answer, Verdict, refuse};
 use head::{forms_of, judge_head, judge_offered};
 use lines::{Records, judge_lines, put_lines};
 use sheet::MOST_CHOSEN;
 use writing::Writing;
 
 // The code of each tag's type, 0 behind the last.
+#[tactic(auto, using(crate::specs::Cases::codes_cases))]
 fn codes_of(tags: &[u32]) -> [u32; MOST_CHOSEN]
     requires { length tags.now ≤ most_chosen }
     ensures { result ≡ codes_for tags.now }
 {
     let mut codes = [0u32; MOST_CHOSEN];
-    let mut i = 0;
-    while i < tags.len() {
-        codes[i] = tags[i] % 65536;
-        i += 1;
+    for (i, tag) in tags.iter().enumerate() {
+        codes[i] = *tag % 65536;
     }
     codes
 }
@@ -54,8 +53,8 @@ fn judge_asked(tags: &[u32], codes: &[u32], flags: &[u32], width: usize, s: &[u8
         return refuse(answers::BREAKS_FORM, 0);
     }
     match scanning::scan(s, codes) {
-        Walk::Ends(_) => Verdict::Clear,
-        Walk::Broken(p) => refuse(answers::WRONG_SHEET, width + p),
+        Ok(_) => Ok(()),
+        Err(p) => refuse(answers::WRONG_SHEET, width + p),
     }
 }
 
@@ -75,14 +74,8 @@ fn judge_records(
     ensures { result ≡ records_at forms.now codes.now flags.now
         offered.now s.now w n }
 {
-    let v = judge_offered(offered, forms, &flags[0..0]);
-    let Verdict::Clear = v else {
-        return v;
-    };
-    let v = judge_head(offered, forms, w, n);
-    let Verdict::Clear = v else {
-        return v;
-    };
+    judge_offered(offered, forms, &flags[0..0])?;
+    judge_head(offered, forms, w, n)?;
     judge_lines(s, codes, flags, w + offered.len(), n)
 }
 
@@ -94,7 +87,9 @@ fn start_size(h: usize, a: usize) -> usize
     24 + 8 * (h + a)
 }
 
-// What the writer's calls answer, n octets being lent: begin, then the records.
+// What the writer's calls answer, n octets being lent: begin, then the records. The slices go one by one from call to
+// call. Tried as a struct, and the proof of `write_book` didn't close: of slices in a struct the check doesn't know that
+// their items are octets and words.
 fn judge_given(
     tags: &[u32],
     codes: &[u32],
@@ -110,10 +105,7 @@ fn judge_given(
     ensures { result ≡ given_at tags.now flags.now htags.now hflags.now
         offered.now s.now n }
 {
-    let v = begin::judge_begin(htags, hflags, tags, flags, n);
-    let Verdict::Clear = v else {
-        return v;
-    };
+    begin::judge_begin(htags, hflags, tags, flags, n)?;
     let h = htags.len();
     let forms = forms_of(htags);
     let w = start_size(h, tags.len());
@@ -210,7 +202,7 @@ fn write_book(
 ) -> usize
     requires { (codes.now ≡ codes_of tags.now) × (length codes.now ≤ most_chosen) × Taken codes.now s.now
         × Exported codes.now
-        × (given_at tags.now flags.now htags.now hflags.now offered.now s.now (length out.old) ≡ Clear) }
+        × (given_at tags.now flags.now htags.now hflags.now offered.now s.now (length out.old) ≡ clear) }
     ensures { (result ≡ length (book_octets (rest_book tags.now flags.now htags.now
         hflags.now offered.now s.now)))
         × (out.new ≡ stored out.old 0 (book_octets (rest_book tags.now
@@ -231,7 +223,7 @@ fn give_book(
     offered: &[u8],
     s: &[u8],
     out: &mut [u8],
-) -> Made
+) -> Answer<usize>
     requires { (codes.now ≡ codes_of tags.now) × (length codes.now ≤ most_chosen) × Taken codes.now s.now
         × Exported codes.now }
     ensures { (result ≡ given_answer tags.now flags.now htags.now
@@ -239,11 +231,8 @@ fn give_book(
         × (out.new ≡ given_octets tags.now flags.now htags.now
         hflags.now offered.now s.now out.old) }
 {
-    let v = judge_given(tags, codes, flags, htags, hflags, offered, s, out.len());
-    if let Verdict::Refused(r) = v {
-        return Made::Refused(r);
-    }
-    Made::Done(write_book(tags, codes, flags, htags, hflags, offered, s, out))
+    judge_given(tags, codes, flags, htags, hflags, offered, s, out.len())?;
+    Ok(write_book(tags, codes, flags, htags, hflags, offered, s, out))
 }
 
 // Behind the first line: `s` are the lines, which stand at `width`, of these tags.
@@ -256,7 +245,7 @@ fn from_lines(
     width: usize,
     s: &[u8],
     out: &mut [u8],
-) -> Made
+) -> Answer<usize>
     requires { (length tags.now ≤ most_chosen) × (width + length s.now < 2 ^ 64) }
     ensures { (result ≡ rest_answer tags.now flags.now htags.now
         hflags.now offered.now width s.now out.old)
@@ -265,10 +254,7 @@ fn from_lines(
 {
     let k = tags.len();
     let codes = codes_of(tags);
-    let v = judge_asked(tags, &codes[0..k], flags, width, s);
-    if let Verdict::Refused(r) = v {
-        return Made::Refused(r);
-    }
+    judge_asked(tags, &codes[0..k], flags, width, s)?;
     give_book(tags, &codes[0..k], flags, htags, hflags, offered, s, out)
 }
 
@@ -281,32 +267,23 @@ pub fn from_sheet(
     hflags: &[u32],
     offered: &[u8],
     out: &mut [u8],
-) -> Made
+) -> Answer<usize>
     ensures { (result ≡ from_answer text.now flags.now htags.now
         hflags.now offered.now out.old)
         × (out.new ≡ from_octets text.now flags.now htags.now
         hflags.now offered.now out.old) }
 {
-    let first = scanning::read_first_line(text);
-    let walk = first.walk;
-    match walk {
-        Walk::Broken(place) => Made::Refused(Refusal {
-            number: answers::WRONG_SHEET,
-            place,
-        }),
-        Walk::Ends(width) => {
-            let k = first.count;
-            let tags = first.tags;
-            from_lines(
-                &tags[0..k],
-                flags,
-                htags,
-                hflags,
-                offered,
-                width,
-                &text[width..],
-                out,
-            )
-        }
+    match scanning::read_first_line(text) {
+        Ok(first) => from_lines(
+            &first.tags[0..first.count],
+            flags,
+            htags,
+            hflags,
+            offered,
+            first.end,
+            &text[first.end..],
+            out,
+        ),
+        Err(place) => refuse(answers::WRONG_SHEET, place),
     }
 }

@@ -10,27 +10,16 @@ ghost use Rattle.sheet.specs.One.{Exported};
 ghost use Rattle.importing.specs.Fields.{laid_row, line_long};
 ghost use Rattle.importing.specs.Tied.{Taken, rows_of};
 ghost use Rattle.importing.specs.LinesCases.{lines_given, records_put};
-ghost use Rattle.importing.specs.Lines.{key_held, line_from, record_from, no_line, values_put, line_put};
+ghost use Rattle.importing.specs.Lines.{key_held, line_from, record_from, values_put, line_put};
 
 use crate::fields::{field_end, put_value, value_long};
-use answers::{Verdict, refuse};
+use answers::{Answer, Verdict, refuse};
 
-// What the calls for a line answer; where it is clear, how many octets are written behind it and where it ends, else 0.
+// How many octets are written behind a line, and where it ends.
 #[derive(Clone, Copy)]
 struct Line {
-    verdict: Verdict,
     written: usize,
     end: usize,
-}
-
-fn no_line(verdict: Verdict) -> Line
-    ensures { result ≡ no_line verdict }
-{
-    Line {
-        verdict,
-        written: 0,
-        end: 0,
-    }
 }
 
 // Whether every key has a value still, the value of a column with these flags being `long` octets.
@@ -46,7 +35,8 @@ fn key_held(held: bool, flags: u32, long: usize) -> bool
 }
 
 // The values of a line and its close, w octets being written and n lent.
-fn judge_line(s: &[u8], at: usize, codes: &[u32], flags: &[u32], w: usize, n: usize) -> Line
+#[tactic(auto, using(crate::specs::LineCases::field_there, crate::specs::LineCases::line_judged))]
+fn judge_line(s: &[u8], at: usize, codes: &[u32], flags: &[u32], w: usize, n: usize) -> Answer<Line>
     requires { at + line_long codes.now (drop at s.now) ≤ length s.now }
     ensures { result ≡ line_from codes.now flags.now true w n at
         (drop at s.now) }
@@ -54,27 +44,21 @@ fn judge_line(s: &[u8], at: usize, codes: &[u32], flags: &[u32], w: usize, n: us
     let mut held = true;
     let mut k = w;
     let mut i = at;
-    let mut j = 0;
-    while j < codes.len() {
+    for (j, code) in codes.iter().enumerate() {
         let end = field_end(s, i);
-        let long = value_long(&s[i..end], codes[j]);
-        let v = writing::judge_room(k, n, long);
-        let Verdict::Clear = v else {
-            return no_line(v);
-        };
+        let long = value_long(&s[i..end], *code);
+        writing::judge_room(k, n, long)?;
         held = key_held(held, entry::flags_at(flags, j), long);
         k += long;
         i = end + 1;
-        j += 1;
     }
     if held {
-        return Line {
-            verdict: Verdict::Clear,
+        return Ok(Line {
             written: k,
             end: i + 1,
-        };
+        });
     }
-    no_line(refuse(answers::BREAKS_RULE, 0))
+    refuse(answers::BREAKS_RULE, 0)
 }
 
 // A line as a record, `opened` records having been opened before.
@@ -86,19 +70,16 @@ fn judge_record(
     w: usize,
     n: usize,
     opened: usize,
-) -> Line
+) -> Answer<Line>
     requires { (at + line_long codes.now (drop at s.now) ≤ length s.now) × (length codes.now ≤ most_chosen) }
     ensures { result ≡ record_from codes.now flags.now w n opened at
         (drop at s.now) }
 {
     if answers::MOST_OPENED <= opened {
-        return no_line(refuse(answers::BREAKS_RULE, 0));
+        return refuse(answers::BREAKS_RULE, 0);
     }
     let head = 4 + presence::octets_for(codes.len());
-    let v = writing::judge_room(w, n, head);
-    let Verdict::Clear = v else {
-        return no_line(v);
-    };
+    writing::judge_room(w, n, head)?;
     judge_line(s, at, codes, flags, w + head, n)
 }
 
@@ -122,6 +103,7 @@ fn mark(bits: &mut [u8], j: usize, there: bool)
 }
 
 // The values of the line at `from`, laid down from `at` on.
+#[tactic(auto, using(crate::specs::LineCases::field_there, crate::specs::LineCases::values_putting, crate::specs::LineCases::values_done))]
 fn put_values(out: &mut [u8], at: usize, s: &[u8], from: usize, codes: &[u32]) -> Put
     requires { (from + line_long codes.now (drop from s.now) ≤ length s.now)
         × (at + length (values_of (laid_row codes.now (drop from s.now))) ≤ length out.old)
@@ -133,14 +115,12 @@ fn put_values(out: &mut [u8], at: usize, s: &[u8], from: usize, codes: &[u32]) -
     let mut bits = [0u8; 2];
     let mut k = at;
     let mut i = from;
-    let mut j = 0;
-    while j < codes.len() {
+    for (j, code) in codes.iter().enumerate() {
         let end = field_end(s, i);
-        let to = put_value(out, k, &s[i..end], codes[j]);
+        let to = put_value(out, k, &s[i..end], *code);
         mark(&mut bits, j, k < to);
         k = to;
         i = end + 1;
-        j += 1;
     }
     Put {
         written: k,
@@ -178,12 +158,9 @@ pub fn judge_lines(s: &[u8], codes: &[u32], flags: &[u32], w: usize, n: usize) -
     let mut opened = 1;
     let mut k = w;
     let mut at = 0;
+    // No `for`: each turn passes a line, and the next one begins where that one ended.
     while at < s.len() {
-        let line = judge_record(s, at, codes, flags, k, n, opened);
-        let v = line.verdict;
-        let Verdict::Clear = v else {
-            return v;
-        };
+        let line = judge_record(s, at, codes, flags, k, n, opened)?;
         k = line.written;
         at = line.end;
         opened += 1;
@@ -191,7 +168,7 @@ pub fn judge_lines(s: &[u8], codes: &[u32], flags: &[u32], w: usize, n: usize) -
     if opened < 2 {
         return refuse(answers::BREAKS_RULE, 0);
     }
-    Verdict::Clear
+    Ok(())
 }
 
 // How many octets are written behind the last record, and how many records there are.
@@ -212,6 +189,7 @@ pub fn put_lines(out: &mut [u8], w: usize, s: &[u8], codes: &[u32]) -> Records
     let mut count = 0;
     let mut k = w;
     let mut at = 0;
+    // No `for`: each turn passes a line, and the next one begins where that one ended.
     while at < s.len() {
         let put = put_record(out, k, s, at, codes);
         k = put.written;

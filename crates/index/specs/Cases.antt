@@ -1,31 +1,31 @@
 -- The ways of the code that reads an index and looks up through it, on plain values.
-use Rattle.std.specs.Prelude.{ℕ, ◌+◌, ◌-◌, ◌*◌, ◌^◌, ◌≤◌, ◌<◌, ◌≡◌, refl, List, [], ltb, length, take, drop}
+use Rattle.std.specs.Prelude.{Ok, Err, ℕ, ◌+◌, ◌*◌, ◌^◌, ◌≤◌, ◌<◌, ◌≡◌, refl, List, [], ltb, length, take, drop}
 use Rattle.std.proofs.Common.{arith, mul-le-mul, le_of_lt, sym, ◌∙◌, Fits}
-use Rattle.std.proofs.Math.Nat.{sub-zero}
 use Rattle.std.specs.Int.{w64}
 use borrow.Author.Tests.{eq-eqb, ne_eqb, lt-ltb, le-ltb, le-leb, lt-leb, ltb-true}
 use Rattle.octets.specs.Word.{word_of, narrow_word}
 use Rattle.answers.specs.Numbers.{out_of_turn, wrong_index, most_records}
-use Rattle.answers.specs.declared.Verdict.{Verdict}
-use Rattle.answers.specs.declared.Verdict.TheVariants.{Clear as clear, Refused}
+use Rattle.answers.specs.Verdict.{Verdict}
+use Rattle.answers.specs.Verdict.{clear, Refused}
 use Rattle.answers.specs.Verdict.{refused, ◌then◌, need, apart, unmet}
 use Rattle.answers.specs.declared.Refusal.{Refusal}
+use Rattle.answers.specs.Verdict.{Answer}
+use Rattle.answers.specs.Made.{answered-refused}
+use Rattle.book.specs.Judged.{both_tables}
 use Rattle.table.specs.declared.Columns.{Columns}
-use Rattle.table.specs.declared.Found.{Found}
-use Rattle.table.specs.declared.Found.TheVariants.{At, Nothing}
+use Rattle.table.specs.Found.{Found}
+use Rattle.table.specs.Found.{At, Nothing}
 use Rattle.entry.specs.Record.{record_at}
 use Rattle.entry.specs.Slots.{slots_from}
 use Rattle.book.specs.Book.{cols_in, count_in, header_at}
 use Rattle.book.specs.Front.{through_tables}
 use Rattle.book.specs.Judged.{tables_in}
-use Rattle.book.specs.JudgeCases.{slots-row, verdict-is, address-are}
-use Rattle.book.specs.Good.{header-keeps, tags-in, forms-in, bits_in, tags-reach, forms-reach, flags-reach}
+use Rattle.book.specs.JudgeCases.{slots-row, through-clear, address-are}
+use Rattle.book.specs.Good.{header-keeps, tags-in, forms-in, bits_in}
 use Rattle.book.specs.declared.Tables.{Tables}
 use Rattle.lookup.specs.Cases.{seek-same}
 use Rattle.lookup.specs.Look.{no_such, seek_in, column_in, in_column}
-use Rattle.lookup.specs.declared.Looked.{Looked}
-use Rattle.lookup.specs.declared.Looked.TheVariants as looked
-use Rattle.lookup.specs.declared.Placed.TheVariants as placed
+use Rattle.lookup.specs.Looked.{Looked}
 use Rattle.index.specs.Index.{starts_offset, entry_width, old_offset, old_width, old_most, width_by, kind_at, index_at}
 use Rattle.index.specs.Index.{start_at, start_of, pair_at, entry_of, record_look, indexed_of}
 
@@ -96,7 +96,7 @@ stretch-short o w k l h g = let m = entries-small o w k h (omega arith) in omega
 -- ---- judge_index and judge_beside
 
 module _ (b ix : List ℕ) (u : Verdict) (ue : u ≡ kind_at b ix) where
-  pub index-kind : (r : Refusal) → u ≡ Refused r → u ≡ index_at b ix
+  pub index-kind : (r : Refusal) → u ≡ Refused r → Refused r ≡ index_at b ix
   unfolding index_at
   index-kind r z = rw (← ue, z)
 
@@ -135,7 +135,7 @@ index-good b ix u c n l s t o w ue z ce ne y le x se te q oe we p =
 pub ruleset indexes = (index-kind, index-count, index-length, index-serial, index-size, index-good)
 
 module _ (b ix : List ℕ) (k : ℕ) (v : Verdict) (ve : v ≡ index_at b ix) where
-  pub beside-index : (r : Refusal) → v ≡ Refused r → v ≡ beside_at b ix k
+  pub beside-index : (r : Refusal) → v ≡ Refused r → Refused r ≡ beside_at b ix k
   unfolding beside_at
   beside-index r z = rw (← ve, z)
 
@@ -165,12 +165,12 @@ start-by ix k o w r oe we e = rw (← oe, ← we) e
 
 module _ (b forms flags : List ℕ) (at c : ℕ) where
   pub column-out : length b ≤ at
-      → looked.Refused (record { number = wrong_index; place = 0 }) ≡ record_look (slots_from forms flags) b at c
+      → Err (record { number = wrong_index; place = 0 }) ≡ record_look (slots_from forms flags) b at c
   unfolding record_look
   column-out h = rw (le-ltb at (length b) h)
 
   module _ (h : at < length b) (v : Verdict) (ve : v ≡ record_at (slots_from forms flags) at (drop at b)) where
-    pub column-refused : (r : Refusal) → v ≡ Refused r → looked.Refused r ≡ record_look (slots_from forms flags) b at c
+    pub column-refused : (r : Refusal) → v ≡ Refused r → Err r ≡ record_look (slots_from forms flags) b at c
     unfolding record_look
     column-refused r z = rw (lt-ltb at (length b) h, ← ve, z)
 
@@ -181,20 +181,19 @@ module _ (b forms flags : List ℕ) (at c : ℕ) where
 
 pub ruleset columns = (column-out, column-refused, column-found)
 
-module _ (b : List ℕ) (cs : Columns) (at tag : ℕ) (f : Found)
-    (e : f ≡ column_in tag (take (cs.count - 0) cs.tags)) where
+module _ (b : List ℕ) (cs : Columns) (at tag : ℕ) (ts : List ℕ) (te : ts ≡ take cs.count cs.tags) (f : Found)
+    (e : f ≡ column_in tag ts) where
   found-is : column_in tag (take cs.count cs.tags) ≡ f
-  found-is = rw (sub-zero cs.count) at (sym e)
+  found-is = rw te at (sym e)
 
   pub look_none : f ≡ Nothing → no_such ≡ table_look cs b at tag
   unfolding table_look
   look_none z = rw (found-is, z)
 
-  pub look-found : (c : ℕ) (r : Looked) → f ≡ At c
-      → r ≡ record_look (slots_from (take (cs.count - 0) cs.forms) (take (cs.count - 0) cs.flags)) b at c
-      → r ≡ table_look cs b at tag
+  pub look-found : (c : ℕ) (r : Looked) (fs gs : List ℕ) → f ≡ At c → fs ≡ take cs.count cs.forms
+      → gs ≡ take cs.count cs.flags → r ≡ record_look (slots_from fs gs) b at c → r ≡ table_look cs b at tag
   unfolding table_look
-  look-found c r z q = rw (found-is, z) (rw (sub-zero cs.count) at q)
+  look-found c r fs gs z x y q = rw (found-is, z) (rw (x, y) at q)
 
 pub ruleset looks = (look_none, look-found)
 
@@ -204,31 +203,32 @@ pair_is : (b ix : List ℕ) (k : ℕ) → pair_at b ix k ≡ (through_tables b t
 unfolding pair_at beside_at
 pair_is b ix k = refl
 
-module _ (b ix : List ℕ) (k : ℕ) (t : Tables) (te : t ≡ tables_in b) where
-  front-is : through_tables b ≡ t.verdict
-  front-is = sym (verdict-is b t te)
+module _ (b ix : List ℕ) (k : ℕ) (u : Answer Tables) (te : u ≡ tables_in b) where
+  module _ (r : Refusal) (z : u ≡ Err r) where
+    front-is : through_tables b ≡ Refused r
+    unfolding tables_in
+    front-is = answered-refused (through_tables b) (both_tables b) r (sym te ∙ z)
 
-  module _ (r : Refusal) (z : t.verdict ≡ Refused r) where
     pair-front : pair_at b ix k ≡ Refused r
-    pair-front = rw (pair_is b ix k, front-is, z)
+    pair-front = rw (pair_is b ix k, front-is)
 
-    pub entry-front : placed.Refused r ≡ entry_of b ix k
+    pub entry-front : Err r ≡ entry_of b ix k
     unfolding entry_of
     entry-front = rw pair-front
 
-    pub indexed-front : (tag : ℕ) → looked.Refused r ≡ indexed_of b ix k tag
+    pub indexed-front : (tag : ℕ) → Err r ≡ indexed_of b ix k tag
     unfolding indexed_of
     indexed-front tag = rw pair-front
 
-  module _ (z : t.verdict ≡ clear) (w : Verdict) (we : w ≡ beside_at b ix k) where
+  module _ (t : Tables) (z : u ≡ Ok t) (w : Verdict) (we : w ≡ beside_at b ix k) where
     pair-rest : pair_at b ix k ≡ w
-    pair-rest = rw (pair_is b ix k, front-is, z, ← we)
+    pair-rest = rw (pair_is b ix k, through-clear b u te t z, ← we)
 
-    pub entry-beside : (r : Refusal) → w ≡ Refused r → placed.Refused r ≡ entry_of b ix k
+    pub entry-beside : (r : Refusal) → w ≡ Refused r → Err r ≡ entry_of b ix k
     unfolding entry_of
     entry-beside r y = rw (pair-rest, y)
 
-    pub indexed-beside : (tag : ℕ) (r : Refusal) → w ≡ Refused r → looked.Refused r ≡ indexed_of b ix k tag
+    pub indexed-beside : (tag : ℕ) (r : Refusal) → w ≡ Refused r → Err r ≡ indexed_of b ix k tag
     unfolding indexed_of
     indexed-beside tag r y = rw (pair-rest, y)
 
@@ -237,15 +237,15 @@ module _ (b ix : List ℕ) (k : ℕ) (t : Tables) (te : t ≡ tables_in b) where
       unfolding beside_at
       few =
           let h = ltb-true k (count_in b) (unmet _ out_of_turn 0 (apart (index_at b ix) _ (sym we ∙ y)).1) in
-          let l = header-keeps b (apart (header_at b) _ (front-is ∙ z)).0 in
+          let l = header-keeps b (apart (header_at b) _ (through-clear b u te t z)).0 in
           omega (arith, l.1)
 
       module _ (at : ℕ) (ae : at ≡ start_of ix k) where
-        pub entry-out : length b ≤ at → placed.Refused (record { number = wrong_index; place = 0 }) ≡ entry_of b ix k
+        pub entry-out : length b ≤ at → Err (record { number = wrong_index; place = 0 }) ≡ entry_of b ix k
         unfolding entry_of
         entry-out h = rw (pair-rest, y, ← ae, le-ltb at (length b) h)
 
-        pub entry-good : at < length b → placed.At at ≡ entry_of b ix k
+        pub entry-good : at < length b → Ok at ≡ entry_of b ix k
         unfolding entry_of
         entry-good h = rw (pair-rest, y, ← ae, lt-ltb at (length b) h)
 
@@ -253,20 +253,7 @@ module _ (b ix : List ℕ) (k : ℕ) (t : Tables) (te : t ≡ tables_in b) where
         unfolding indexed_of table_look
         indexed-look tag r q =
             let cs = cols_in (drop 12 b) in
-            rw (pair-rest, y, ← ae) (rw (address-are b t te z, tags-in cs, forms-in cs, bits_in cs, slots-row cs) at q)
-
--- the address columns reach as far as their count
-module _ (b : List ℕ) (t : Tables) (te : t ≡ tables_in b) (z : t.verdict ≡ clear) where
-  pub tags-there : t.address.count ≤ length t.address.tags
-  tags-there = tags-reach t.address (cols_in (drop 12 b)) (address-are b t te z)
-
-  pub forms-there : t.address.count ≤ length t.address.forms
-  forms-there = forms-reach t.address (cols_in (drop 12 b)) (address-are b t te z)
-
-  pub flags-there : t.address.count ≤ length t.address.flags
-  flags-there = flags-reach t.address (cols_in (drop 12 b)) (address-are b t te z)
-
-pub ruleset reaches = (tags-there, forms-there, flags-there)
+            rw (pair-rest, y, ← ae) (rw (address-are b u te t z, tags-in cs, forms-in cs, bits_in cs, slots-row cs) at q)
 
 pub ruleset entered = (entry-front, entry-beside, entry-out, entry-good)
 

@@ -1,5 +1,5 @@
 -- Entries of any width: the one at k is read back. One law over the width serves every kind of index.
-use Rattle.std.specs.Prelude.{ℕ, zero, suc, ◌+◌, ◌*◌, ◌^◌, ◌≤◌, ◌<◌, ◌≡◌, refl, List, [], ◌∷◌, ◌++◌, length, get_or, drop}
+use Rattle.std.specs.Prelude.{ℕ, zero, suc, ◌+◌, ◌*◌, ◌^◌, ◌<◌, ◌≡◌, refl, List, [], ◌∷◌, ◌++◌, length, get_or, drop}
 use Rattle.std.proofs.Common.{arith, mul-suc, mul-zero, sym, ap, ap₂, ◌∙◌, append_assoc, append-nil, length-append, drop-drop}
 use Rattle.std.proofs.Math.Seq.{drop-append-add}
 use Rattle.octets.specs.Word.{le_of, word_of, length-word, drop-word, word_back}

@@ -1,13 +1,13 @@
 -- A saved index of a book (requests 103 and 111, readings 25 and 32): its header, then the start of each address
 -- record. How it is made from a book, how either kind is read beside octets of any sort, and the lookup through it.
-use Rattle.std.specs.Prelude.{ℕ, zero, suc, ◌+◌, ◌*◌, cond, List, [], ◌∷◌, ◌++◌, eqb, ltb, leb, length, drop}
+use Rattle.std.specs.Prelude.{Ok, ℕ, zero, suc, ◌+◌, ◌*◌, cond, List, [], ◌∷◌, ◌++◌, eqb, ltb, leb, length, drop}
 use Rattle.octets.specs.Splice.{stored}
 use Rattle.octets.specs.Word.{le_of, word_of}
 use Rattle.serial.specs.Serial.{serial_of}
 use Rattle.answers.specs.Numbers.{out_of_turn, no_room, wrong_index}
-use Rattle.answers.specs.declared.Verdict.{Verdict}
+use Rattle.answers.specs.Verdict.{Verdict}
 use Rattle.answers.specs.Verdict.{◌then◌, need, kept}
-use Rattle.answers.specs.declared.Made.{Made}
+use Rattle.answers.specs.Made.{Made}
 use Rattle.answers.specs.Made.{answered}
 use Rattle.table.specs.Columns.{tags_of}
 use Rattle.entry.specs.Record.{Slot, record_at}
@@ -17,9 +17,8 @@ use Rattle.book.specs.Front.{through_tables}
 use Rattle.lookup.specs.Places.{place_of}
 use Rattle.lookup.specs.Look.{seek_in, column_in, in_column, look_by}
 use Rattle.lookup.specs.Placed.{place_by}
-use Rattle.lookup.specs.declared.Looked.{Looked}
-use Rattle.lookup.specs.declared.Placed.{Placed}
-use Rattle.lookup.specs.declared.Placed.TheVariants as placed
+use Rattle.lookup.specs.Looked.{Looked}
+use Rattle.lookup.specs.Looked.{Placed}
 
 -- ---- what an index is
 
@@ -133,7 +132,7 @@ abbrev pub entry_in : List ℕ → ℕ → Verdict
 entry_in xs at = need (ltb at (length xs)) wrong_index 0
 
 unfoldable pub entry_of : List ℕ → List ℕ → ℕ → Placed
-entry_of xs ix k = place_by (pair_at xs ix k then entry_in xs (start_of ix k)) (placed.At (start_of ix k))
+entry_of xs ix k = place_by (pair_at xs ix k then entry_in xs (start_of ix k)) (Ok (start_of ix k))
 
 -- ---- the lookup through an index
 

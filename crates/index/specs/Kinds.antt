@@ -1,17 +1,15 @@
 -- What isn't an index of either kind, and what an old index isn't for: both calls refuse it once the book's tables are
 -- good, whatever else stands in it (request 111).
-use Rattle.std.specs.Prelude.{ℕ, ◌<◌, ◌≡◌, List, length, drop}
+use Rattle.std.specs.Prelude.{Err, ℕ, ◌<◌, ◌≡◌, List, length, drop}
 use Rattle.std.proofs.Math.Bool.{true, false}
 use Rattle.std.proofs.Math.Dec.{eqb, leb}
 use borrow.Author.Tests.{eq-eqb, ne_eqb, lt-leb}
 use Rattle.octets.specs.Word.{word_of}
 use Rattle.answers.specs.Numbers.{wrong_index}
 use Rattle.answers.specs.declared.Refusal.{Refusal}
-use Rattle.answers.specs.declared.Verdict.TheVariants.{Clear as clear}
+use Rattle.answers.specs.Verdict.{clear}
 use Rattle.answers.specs.Verdict.{refused}
 use Rattle.book.specs.Front.{through_tables}
-use Rattle.lookup.specs.declared.Looked.TheVariants as looked
-use Rattle.lookup.specs.declared.Placed.TheVariants as placed
 use Rattle.index.specs.Index.{starts_offset, entry_width, old_offset, old_most, offset_in, kind_at, index_at, pair_at}
 use Rattle.index.specs.Index.{entry_of, indexed_of}
 
@@ -21,8 +19,8 @@ not_its = record { number = wrong_index; place = 0 }
 
 -- neither call reads anything through these octets
 pub record Unread (xs ix : List ℕ) : Type 0 where
-  pub entry : (k : ℕ) → entry_of xs ix k ≡ placed.Refused not_its
-  pub value : (k t : ℕ) → indexed_of xs ix k t ≡ looked.Refused not_its
+  pub entry : (k : ℕ) → entry_of xs ix k ≡ Err not_its
+  pub value : (k t : ℕ) → indexed_of xs ix k t ≡ Err not_its
 
 module _ (xs ix : List ℕ) (tables : through_tables xs ≡ clear) where
   pair-refused : kind_at xs ix ≡ refused wrong_index 0 → (k : ℕ) → pair_at xs ix k ≡ refused wrong_index 0

@@ -1,6 +1,6 @@
 -- With one index the answer is the same for two books of one length that agree in the header, the metadata and the
 -- record found: nothing else is read.
-use Rattle.std.specs.Prelude.{ℕ, ◌+◌, ◌≤◌, ◌<◌, ◌≡◌, take, drop}
+use Rattle.std.specs.Prelude.{ℕ, ◌+◌, ◌≤◌, ◌≡◌, take, drop}
 use Rattle.std.proofs.Common.{arith, sym, ap, ◌∙◌}
 use mathlib.Core.List.{List}
 use Rattle.std.proofs.Math.ListN.{length, length-drop}

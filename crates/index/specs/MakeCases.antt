@@ -1,9 +1,9 @@
 -- The ways of the code that makes an index, on plain values.
 use Prim.Native.Nat.{ℕ, suc, ◌+◌, ◌*◌, ◌^◌, ◌≤◌, ◌<◌}
 use Rattle.std.proofs.Common.{arith, mul-suc, mul-zero, add-zero, mul-le-mul_left, add-one, ◌∙◌, Fits}
-use Rattle.std.specs.Prelude.{◌≡◌, leb, get_or}
+use Rattle.std.specs.Prelude.{Ok, Err, ◌≡◌, leb, get_or}
 use Rattle.std.proofs.Math.Path.{refl, sym, ap}
-use mathlib.Core.List.{List, [], ◌∷◌, ◌++◌}
+use mathlib.Core.List.{List, ◌++◌}
 use Rattle.std.proofs.Math.ListN.{length, drop}
 use Rattle.std.specs.Int.{w8, w64}
 use borrow.Author.Tests.{le-leb, lt-leb}
@@ -11,14 +11,13 @@ use Rattle.octets.specs.Octets.{octets-from}
 use Rattle.octets.specs.Splice.{stored, stored-nil, stored-join}
 use Rattle.octets.specs.Word.{le_of, word_of, length-le_of}
 use Rattle.answers.specs.Numbers.{no_room, most_records}
-use Rattle.answers.specs.declared.Made.TheVariants as made
 use Rattle.answers.specs.declared.Refusal.{Refusal}
+use Rattle.answers.specs.Verdict.{Answer}
 use Rattle.answers.specs.Verdict.{need}
 use Rattle.book.specs.Read.{book_in, rows-count}
 use Rattle.book.specs.Judged.{judged_of}
 use Rattle.book.specs.Good.{GoodIs, good-is, refused-by, good-keeps}
 use Rattle.book.specs.declared.Judgement.{Judgement}
-use Rattle.book.specs.declared.Judged.TheVariants as judged
 use Rattle.lookup.specs.Places.{walk_to, place_of}
 use Rattle.lookup.specs.PlaceCases.{walk_more, number-start}
 use Rattle.lookup.specs.Cases.{walk-place}
@@ -121,35 +120,35 @@ pub ruleset walkings = (walked_none, walked_next, walked_on, walked-goes, walked
 
 -- ---- make_index
 
-module _ (b d : List ℕ) (j : Judgement) (e : j ≡ judged_of b) where
-  module _ (r : Refusal) (q : j.judged ≡ judged.Refused r) where
-    pub make-refused : made.Refused r ≡ make_answer b d
+module _ (b d : List ℕ) (u : Answer Judgement) (e : u ≡ judged_of b) where
+  module _ (r : Refusal) (q : u ≡ Err r) where
+    pub make-refused : Err r ≡ make_answer b d
     unfolding make_answer make_at
-    make-refused = rw (refused-by b j e r q)
+    make-refused = rw (refused-by b u e r q)
 
     pub make-left : d ≡ make_octets b d
     unfolding make_octets make_at
-    make-left = rw (refused-by b j e r q)
+    make-left = rw (refused-by b u e r q)
 
-  module _ (l c h f : ℕ) (q : j.judged ≡ judged.Good l c h f) where
-    good : GoodIs b j c h f
-    good = good-is b j l c h f e q
+  module _ (j : Judgement) (q : u ≡ Ok j) where
+    good : GoodIs b j
+    good = good-is b u j e q
 
-    pub make-count : c ≤ most_records
+    pub make-count : j.count ≤ most_records
     make-count = let k = good-keeps b good.clears in let n = good.count in omega (arith, k.1)
 
-    pub make-first : f < 2 ^ 32
+    pub make-first : j.first < 2 ^ 32
     make-first = let k = good-keeps b good.clears in let n = good.first in omega (arith, k.0, k.2)
 
-    pub size-mul : Fits w64 (entry_width * c)
+    pub size-mul : Fits w64 (entry_width * j.count)
     size-mul = record { fits = let k = make-count in omega arith }
 
-    pub size-add : Fits w64 (starts_offset + entry_width * c)
+    pub size-add : Fits w64 (starts_offset + entry_width * j.count)
     size-add = record { fits = let k = make-count in omega arith }
 
     module _ (o : (i : ℕ) → Fits w8 (get_or b i 0)) where
       abbrev size : ℕ
-      size = starts_offset + entry_width * c
+      size = starts_offset + entry_width * j.count
 
       size_is : length (index_of (book_in b)) ≡ size
       size_is =
@@ -161,7 +160,7 @@ module _ (b d : List ℕ) (j : Judgement) (e : j ≡ judged_of b) where
       verdict-by = rw (good.clears, size_is)
 
       module _ (g : length d < size) where
-        pub make-short : made.Refused (record { number = no_room; place = 0 }) ≡ make_answer b d
+        pub make-short : Err (record { number = no_room; place = 0 }) ≡ make_answer b d
         unfolding make_answer
         make-short = rw (verdict-by, lt-leb size (length d) g)
 
@@ -170,30 +169,30 @@ module _ (b d : List ℕ) (j : Judgement) (e : j ≡ judged_of b) where
         make-kept = rw (verdict-by, lt-leb size (length d) g)
 
       module _ (g : size ≤ length d) where
-        pub make-done : made.Done size ≡ make_answer b d
+        pub make-done : Ok size ≡ make_answer b d
         unfolding make_answer
         make-done = rw (verdict-by, le-leb size (length d) g, size_is)
 
-        entries-are : walked entry_width c f (drop f b) ≡ entries_of entry_width (starts_of (book_in b))
+        entries-are : walked entry_width j.count j.first (drop j.first b) ≡ entries_of entry_width (starts_of (book_in b))
         unfolding starts_of walked
         entries-are =
-            let n : c ≡ length (book_in b).rows = good.count ∙ sym (rows-count b) in
-            let p : (k : ℕ) → k < c → walk_to k f (drop f b) ≡ place_of (book_in b) k = λ k h.
-            walk-place b k f good.first
+            let n : j.count ≡ length (book_in b).rows = good.count ∙ sym (rows-count b) in
+            let p : (k : ℕ) → k < j.count → walk_to k j.first (drop j.first b) ≡ place_of (book_in b) k = λ k h.
+            walk-place b k j.first good.first
             ∙ sym (own-place b (octets-from b o) good.clears k (omega (arith, good.count))) in
             ap (entries_of entry_width)
-            (listed_same c (λ k. walk_to k f (drop f b)) (place_of (book_in b)) p
+            (listed_same j.count (λ k. walk_to k j.first (drop j.first b)) (place_of (book_in b)) p
             ∙ ap (λ (m : ℕ). listed m (place_of (book_in b))) n)
 
         pub make-put : (x y : List ℕ) (s : ℕ) → s ≡ word_of 4 (drop 4 b)
-            → x ≡ stored d 0 (front_of c (length b) s)
-            → y ≡ stored x starts_offset (walked entry_width c f (drop f b)) → y ≡ make_octets b d
+            → x ≡ stored d 0 (front_of j.count (length b) s)
+            → y ≡ stored x starts_offset (walked entry_width j.count j.first (drop j.first b)) → y ≡ make_octets b d
         unfolding make_octets front_of
         make-put x y s u v w =
-            let head : List ℕ = fields_of c (length b) s starts_offset ++ le_of 4 entry_width in
-            let es : List ℕ = walked entry_width c f (drop f b) in
-            let n : length es ≡ entry_width * c = walked-long entry_width c f (drop f b) in
-            let m : length head ≡ starts_offset = front_long c (length b) s starts_offset (le_of 4 entry_width) in
+            let head : List ℕ = fields_of j.count (length b) s starts_offset ++ le_of 4 entry_width in
+            let es : List ℕ = walked entry_width j.count j.first (drop j.first b) in
+            let n : length es ≡ entry_width * j.count = walked-long entry_width j.count j.first (drop j.first b) in
+            let m : length head ≡ starts_offset = front_long j.count (length b) s starts_offset (le_of 4 entry_width) in
             let z : stored (stored d 0 head) starts_offset es ≡ stored d 0 (head ++ es) =
             stored-join d head es 0 starts_offset (omega arith) (omega arith) in
             let t : head ++ es ≡ index_of (book_in b) =

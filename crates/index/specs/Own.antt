@@ -2,7 +2,7 @@
 -- gives the record's place: said once for both kinds, by the offset and the width.
 use Prim.Native.Nat.{ℕ, ◌+◌, ◌*◌, ◌^◌, ◌≤◌, ◌<◌}
 use Rattle.std.proofs.Common.{arith, sym, ap, ◌∙◌}
-use Rattle.std.specs.Prelude.{◌≡◌, ltb, take, drop, get_or}
+use Rattle.std.specs.Prelude.{Ok, ◌≡◌, ltb, take, drop, get_or}
 use Rattle.std.proofs.Math.Path.{refl}
 use Rattle.std.proofs.Math.Bool.{true}
 use mathlib.Core.List.{List, [], ◌++◌, append_assoc}
@@ -15,9 +15,8 @@ use Rattle.octets.specs.Splice.{stored-in, splice-within}
 use Rattle.octets.specs.Word.{le_of, word_of, word-any, word_back}
 use Rattle.serial.specs.Serial.{serial_of}
 use Rattle.answers.specs.Numbers.{wrong_serial, wrong_index, out_of_turn, no_room}
-use Rattle.answers.specs.declared.Made.TheVariants as made
 use Rattle.answers.specs.Made.{answered-done}
-use Rattle.answers.specs.declared.Verdict.TheVariants.{Clear as clear}
+use Rattle.answers.specs.Verdict.{clear}
 use Rattle.answers.specs.Verdict.{need, both, apart, met, unmet}
 use Rattle.table.specs.Columns.{tags_of}
 use Rattle.book.specs.Book.{Book, Sound, body_octets, book_octets, cols_in, count_in, judge}
@@ -232,7 +231,7 @@ module _ (xs : List ℕ) (o : Octets xs) (e : judge xs ≡ clear) where
     old-entry-is = entry-own old_offset old_width [] refl (omega arith) refl old-kind short
 
 -- What the maker leaves in the front of the buffer, as long as it answers, is the book's index.
-pub make-reads : (xs d : List ℕ) (n : ℕ) → make_answer xs d ≡ made.Done n
+pub make-reads : (xs d : List ℕ) (n : ℕ) → make_answer xs d ≡ Ok n
     → (judge xs ≡ clear) × (take n (make_octets xs d) ≡ index_of (book_in xs))
 unfolding make_answer make_octets make_at
 make-reads xs d n a =

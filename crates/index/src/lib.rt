@@ -11,11 +11,11 @@ ghost use Rattle.index.specs.Index.{start_at, start_of, entry_of, record_look, i
 ghost use Rattle.index.specs.MakeCases.{front_of, walked};
 ghost use Rattle.index.specs.Cases.{beside_at, table_look};
 
-use answers::{Made, Refusal, Verdict, refuse};
-use book::Judged;
-use lookup::{Looked, Placed};
+use answers::{Answer, Verdict, refuse};
+use book::Judgement;
+use lookup::Looked;
 use octets::{put_word, word32};
-use table::{Columns, Found};
+use table::Columns;
 
 // Where the starts begin in an index, and how many octets each takes.
 const STARTS_OFFSET: usize = 20;
@@ -50,50 +50,34 @@ fn put_front(out: &mut [u8], count: usize, long: usize, serial: u32)
     put_word(out, 16, 4, ENTRY_WIDTH as u64);
 }
 
-// The starts of `count` records from `first` on, from `at` on and in `width` octets each.
-fn put_starts(out: &mut [u8], at: usize, width: usize, book: &[u8], first: usize, count: usize)
-    requires { (first < 2 ^ 32) × (count ≤ most_records) × (at + width * count ≤ length out.old) }
+// The starts of a good book's address records, from `at` on and in `width` octets each.
+fn put_starts(out: &mut [u8], at: usize, width: usize, book: &[u8], j: &Judgement)
+    requires { (j.now.first < 2 ^ 32) × (j.now.count ≤ most_records) × (at + width * j.now.count ≤ length out.old) }
     ensures { out.new ≡ stored out.old at
-        (walked width count first (drop first book.now)) }
+        (walked width j.now.count j.now.first (drop j.now.first book.now)) }
 {
-    let mut k = 0;
     let mut to = at;
-    let mut i = first;
-    while k < count {
+    let mut i = j.first;
+    for _ in 0..j.count {
         put_word(out, to, width, i as u64);
         to += width;
         i += word32(book, i) as usize;
-        k += 1;
     }
 }
 
 // The index of a book, where the book is good and the index fits.
-pub fn make_index(book: &[u8], out: &mut [u8]) -> Made
+pub fn make_index(book: &[u8], out: &mut [u8]) -> Answer<usize>
     ensures { (result ≡ make_answer book.now out.old)
         × (out.new ≡ make_octets book.now out.old) }
 {
-    let j = book::judge(book);
-    let judged = j.judged;
-    match judged {
-        Judged::Refused(r) => Made::Refused(r),
-        Judged::Good {
-            length: _,
-            count,
-            header: _,
-            first,
-        } => {
-            let size = STARTS_OFFSET + ENTRY_WIDTH * count;
-            if out.len() < size {
-                return Made::Refused(Refusal {
-                    number: answers::NO_ROOM,
-                    place: 0,
-                });
-            }
-            put_front(out, count, book.len(), word32(book, 4));
-            put_starts(out, STARTS_OFFSET, ENTRY_WIDTH, book, first, count);
-            Made::Done(size)
-        }
+    let j = book::judge(book)?;
+    let size = STARTS_OFFSET + ENTRY_WIDTH * j.count;
+    if out.len() < size {
+        return refuse(answers::NO_ROOM, 0);
     }
+    put_front(out, j.count, book.len(), word32(book, 4));
+    put_starts(out, STARTS_OFFSET, ENTRY_WIDTH, book, &j);
+    Ok(size)
 }
 
 // ---- the reader
@@ -117,7 +101,7 @@ fn judge_kind(book: &[u8], index: &[u8]) -> Verdict
         if OLD_MOST < book.len() {
             return refuse(answers::WRONG_INDEX, 0);
         }
-        return Verdict::Clear;
+        return Ok(());
     }
     if offset != STARTS_OFFSET {
         return refuse(answers::WRONG_INDEX, 0);
@@ -125,17 +109,14 @@ fn judge_kind(book: &[u8], index: &[u8]) -> Verdict
     if word32(index, 16) as usize != ENTRY_WIDTH {
         return refuse(answers::WRONG_INDEX, 0);
     }
-    Verdict::Clear
+    Ok(())
 }
 
 // Whether these octets can be the index of the book.
 fn judge_index(book: &[u8], index: &[u8]) -> Verdict
     ensures { result ≡ index_at book.now index.now }
 {
-    let v = judge_kind(book, index);
-    let Verdict::Clear = v else {
-        return v;
-    };
+    judge_kind(book, index)?;
     let count = word32(book, 8);
     if word32(index, 0) != count {
         return refuse(answers::WRONG_INDEX, 0);
@@ -150,21 +131,18 @@ fn judge_index(book: &[u8], index: &[u8]) -> Verdict
     if index.len() != offset + width_by(offset) * count as usize {
         return refuse(answers::WRONG_INDEX, 0);
     }
-    Verdict::Clear
+    Ok(())
 }
 
 // The index beside the book, then the record's number.
 fn judge_beside(book: &[u8], index: &[u8], k: usize) -> Verdict
     ensures { result ≡ beside_at book.now index.now k }
 {
-    let v = judge_index(book, index);
-    let Verdict::Clear = v else {
-        return v;
-    };
+    judge_index(book, index)?;
     if word32(book, 8) as usize <= k {
         return refuse(answers::OUT_OF_TURN, 0);
     }
-    Verdict::Clear
+    Ok(())
 }
 
 // The start of record k by an index of this offset and this width.
@@ -185,26 +163,16 @@ fn start_of(index: &[u8], k: usize) -> usize
 }
 
 // Where address record k starts, by the index.
-pub fn entry_at(book: &[u8], index: &[u8], k: usize) -> Placed
+pub fn entry_at(book: &[u8], index: &[u8], k: usize) -> Answer<usize>
     ensures { result ≡ entry_of book.now index.now k }
 {
-    let t = book::read_tables(book);
-    let v = t.verdict;
-    if let Verdict::Refused(r) = v {
-        return Placed::Refused(r);
-    }
-    let w = judge_beside(book, index, k);
-    if let Verdict::Refused(r) = w {
-        return Placed::Refused(r);
-    }
+    book::read_tables(book)?;
+    judge_beside(book, index, k)?;
     let at = start_of(index, k);
     if at < book.len() {
-        return Placed::At(at);
+        return Ok(at);
     }
-    Placed::Refused(Refusal {
-        number: answers::WRONG_INDEX,
-        place: 0,
-    })
+    refuse(answers::WRONG_INDEX, 0)
 }
 
 // ---- the lookup
@@ -214,51 +182,28 @@ fn look_column(book: &[u8], at: usize, forms: &[u8], flags: &[u32], c: usize) ->
     ensures { result ≡ record_look (slots_from forms.now flags.now) book.now at c }
 {
     if book.len() <= at {
-        return Looked::Refused(Refusal {
-            number: answers::WRONG_INDEX,
-            place: 0,
-        });
+        return refuse(answers::WRONG_INDEX, 0);
     }
-    let v = entry::judge_record(book, at, forms, flags);
-    if let Verdict::Refused(r) = v {
-        return Looked::Refused(r);
-    }
+    entry::judge_record(book, at, forms, flags)?;
     lookup::seek(book, at, forms, c)
 }
 
 // The value with a tag in the record that starts at `at`.
 fn look_at(book: &[u8], columns: Columns, at: usize, tag: u32) -> Looked
-    requires { (columns.count ≤ length columns.tags) × (columns.count ≤ length columns.forms)
-        × (columns.count ≤ length columns.flags) }
     ensures { result ≡ table_look columns book.now at tag }
 {
-    let n = columns.count;
-    let tags = columns.tags;
-    let forms = columns.forms;
-    let flags = columns.flags;
-    let Found::At(c) = lookup::find_column(&tags[0..n], tag) else {
-        return Looked::Refused(Refusal {
-            number: answers::OUT_OF_TURN,
-            place: 0,
-        });
+    let Some(c) = lookup::find_column(columns.tags(), tag) else {
+        return refuse(answers::OUT_OF_TURN, 0);
     };
-    look_column(book, at, &forms[0..n], &flags[0..n], c)
+    look_column(book, at, columns.forms(), columns.flags(), c)
 }
 
 // The value of address record k with a whole tag, by the index: only the header, the metadata and that record are read.
 pub fn lookup_indexed(book: &[u8], index: &[u8], k: usize, tag: u32) -> Looked
     ensures { result ≡ indexed_of book.now index.now k tag }
 {
-    let t = book::read_tables(book);
-    let v = t.verdict;
-    if let Verdict::Refused(r) = v {
-        return Looked::Refused(r);
-    }
-    let w = judge_beside(book, index, k);
-    if let Verdict::Refused(r) = w {
-        return Looked::Refused(r);
-    }
-    let columns = t.address;
+    let t = book::read_tables(book)?;
+    judge_beside(book, index, k)?;
     let at = start_of(index, k);
-    look_at(book, columns, at, tag)
+    look_at(book, t.address, at, tag)
 }

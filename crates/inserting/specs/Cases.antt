@@ -1,5 +1,5 @@
 -- The ways of the code that puts a record in or takes one out, on plain values.
-use Rattle.std.specs.Prelude.{ℕ, ◌+◌, ◌-◌, ◌^◌, ◌≤◌, ◌<◌, ◌≡◌, refl, Bool, true, false, ltb, leb, take, drop}
+use Rattle.std.specs.Prelude.{Err, Ok, ℕ, ◌+◌, ◌-◌, ◌^◌, ◌≤◌, ◌<◌, ◌≡◌, refl, Bool, true, false, ltb, leb, take, drop}
 use native.Mathlib.Omega.{arith}
 use Rattle.std.proofs.Math.Nat.{add-zero, sub-zero}
 use Rattle.std.proofs.Math.Path.{sym, ap}
@@ -12,11 +12,13 @@ use borrow.Author.Tests.{le-leb, lt-leb, leb-true, lt-ltb, le-ltb, ltb-true, eq-
 use Rattle.octets.specs.Cases.{split}
 use Rattle.octets.specs.Word.{word_of}
 use Rattle.answers.specs.Numbers.{cut_short, wrong_size, out_of_turn, breaks_rule, no_room, breaks_form, most_octets}
-use Rattle.answers.specs.Numbers.{most_records, most_columns}
+use Rattle.answers.specs.Numbers.{most_records}
 use Rattle.answers.specs.declared.Refusal.{Refusal}
-use Rattle.answers.specs.declared.Verdict.{Verdict}
-use Rattle.answers.specs.declared.Verdict.TheVariants.{Clear as clear, Refused}
-use Rattle.answers.specs.Verdict.{refused, ◌then◌, need, no-clear, apart, unmet}
+use Rattle.answers.specs.Verdict.{Answer, answered, verdict_of, refusal}
+use Rattle.answers.specs.Made.{answered-done}
+use Rattle.answers.specs.Verdict.{Verdict}
+use Rattle.answers.specs.Verdict.{clear, Refused}
+use Rattle.answers.specs.Verdict.{refused, ◌then◌, need, apart, unmet}
 use Rattle.presence.specs.Presence.{room}
 use Rattle.value.specs.Types.{form_at}
 use Rattle.table.specs.Table.{Column}
@@ -29,7 +31,6 @@ use Rattle.book.specs.Front.{front_at, judge-front}
 use Rattle.book.specs.JudgeCases.{slots-row, both-fit}
 use Rattle.book.specs.Good.{GoodIs, good-is, refused-by, good-keeps, forms-in, bits_in}
 use Rattle.book.specs.declared.Judgement.{Judgement}
-use Rattle.book.specs.declared.Judged.TheVariants as judged
 use Rattle.lookup.specs.Places.{walk_behind, walk-behind, place_in}
 use Rattle.lookup.specs.Cases.{walk-place}
 use Rattle.editing.specs.Put.{put, resealed, corrected_of}
@@ -38,21 +39,13 @@ use Rattle.editing.specs.Fits.{records_put, records-fit}
 use Rattle.editing.specs.Stands.{place-next, place-stands, number-stands}
 use Rattle.correcting.specs.Correct.{book_at, room_for, offered_at, insert_book, insert_at, insert_answer, insert_octets}
 use Rattle.correcting.specs.Correct.{delete_book, delete_at, delete_answer, delete_octets}
-use Rattle.answers.specs.declared.Made.TheVariants as made
 use Rattle.inserting.specs.declared.Gap.{Gap}
 
 -- ---- what is decided before anything is written
 
-abbrev pub no_gap : Verdict → Gap
-no_gap v = record { verdict = v; place = 0; end = 0; count = 0 }
-
-abbrev pub on_gap : Verdict → Gap → Gap
-on_gap clear g = g
-on_gap (Refused r) g = no_gap (Refused r)
-
 -- m records from record k on make room for n
 abbrev pub gap_at : List ℕ → ℕ → ℕ → ℕ → Gap
-gap_at b k m n = record { verdict = clear; place = place_in b k; end = place_in b (k + m); count = count_in b + n - m }
+gap_at b k m n = record { place = place_in b k; end = place_in b (k + m); count = count_in b + n - m }
 
 -- ---- judge_offered
 
@@ -61,15 +54,16 @@ unfolding key_bit
 free-slots [] flags = refl
 free-slots (f ∷ forms) flags = ap (λ (l : List Slot). record { form = form_at f; must = false } ∷ l) (free-slots forms (drop 1 flags))
 
-module _ (new forms flags : List ℕ) (n : ℕ) (h : n ≤ length forms) (v : Verdict) (ve : v ≡ record_at (slots_from (take (n - 0) forms) (take 0 flags)) 0 (drop 0 new)) where
+module _ (new forms flags : List ℕ) (n : ℕ) (fs : List ℕ) (fe : fs ≡ take n forms) (v : Verdict)
+    (ve : v ≡ record_at (slots_from fs []) 0 (drop 0 new)) where
   abbrev ss : List Slot
   ss = slots_from (take n forms) (take n flags)
 
   record_is : record_at (freed (slots_from (take n forms) (take n flags))) 0 new ≡ v
-  record_is = rw (free-slots (take n forms) (take n flags)) (rw (sub-zero n) at (sym ve))
+  record_is = rw (free-slots (take n forms) (take n flags)) (rw fe at (sym ve))
 
-  many : length (slots_from (take n forms) (take n flags)) ≡ n
-  many = slots-many (take n forms) (take n flags) ∙ length-take-le n forms h
+  many : length (slots_from (take n forms) (take n flags)) ≡ length fs
+  many = slots-many (take n forms) (take n flags) ∙ ap length (sym fe)
 
   pub offered-broken : (r : Refusal) (x : Verdict) → v ≡ Refused r → x ≡ refused breaks_form 0 → x ≡ offered_at (slots_from (take n forms) (take n flags)) new
   unfolding offered_at
@@ -80,23 +74,25 @@ module _ (new forms flags : List ℕ) (n : ℕ) (h : n ≤ length forms) (v : Ve
     unfolding offered_at
     offered-longer x y q = rw (record_is, z, ← we, ne_eqb w (length new) y) q
 
-    module _ (y : w ≡ length new) (m : ℕ) (me : m ≡ room n) where
+    module _ (y : w ≡ length new) (m : ℕ) (me : m ≡ room (length fs)) where
       pub offered-head : 4 + m ≤ length new
       unfolding record_at
       offered-head =
           let f : List Slot = freed ss in
-          let l : length f ≡ n = ap length (free-slots (take n forms) (take n flags)) ∙ slots-many (take n forms) [] ∙ length-take-le n forms h in
+          let l : length f ≡ length fs =
+          ap length (free-slots (take n forms) (take n flags)) ∙ slots-many (take n forms) [] ∙ ap length (sym fe) in
           let c₁ = apart (need (leb 4 (length new)) cut_short 0) _ (record_is ∙ z) in
           let c₂ = apart (need (leb (4 + room (length f)) (word_of 4 new)) wrong_size 0) _ c₁.1 in
           let b = leb-true (4 + room (length f)) (word_of 4 new) (unmet _ wrong_size 0 c₂.0) in
-          let g : room (length f) ≡ room n = ap room l in
+          let g : room (length f) ≡ room (length fs) = ap room l in
           omega arith
 
-      module _ (k : Bool) (ke : k ≡ is_clear (keys_at (slots_from (take (n - 0) forms) (take (n - 0) flags)) 0 (take (4 + m - 4) (drop 4 new)) 4)) where
+      module _ (gs : List ℕ) (ge : gs ≡ take n flags) (k : Bool)
+          (ke : k ≡ is_clear (keys_at (slots_from fs gs) 0 (take (4 + m - 4) (drop 4 new)) 4)) where
         keys-are : is_clear (keys_at (slots_from (take n forms) (take n flags)) 0 (present_in (length (slots_from (take n forms) (take n flags))) new) 4) ≡ k
         keys-are =
-            let e : 4 + m - 4 ≡ room n = omega arith in
-            rw many (rw (sub-zero n, e) at (sym ke))
+            let e : 4 + m - 4 ≡ room (length fs) = omega arith in
+            rw (many, fe) (rw (fe, ge) at (rw e at (sym ke)))
 
         pub offered-key : (x : Verdict) → k ≡ false → x ≡ refused breaks_rule 0 → x ≡ offered_at (slots_from (take n forms) (take n flags)) new
         unfolding offered_at
@@ -115,12 +111,12 @@ insert_in len room count k new ss =
     then need (ltb count most_records) breaks_rule 0
     then room_in (len + length new) room
 
-unfoldable pub insert_gap : List ℕ → ℕ → ℕ → List ℕ → Gap
-insert_gap b room k new = on_gap (judge b then insert_in (length b) room (count_in b) k new (row_slots (cols_in (drop 12 b)))) (gap_at b k 0 1)
+unfoldable pub insert_gap : List ℕ → ℕ → ℕ → List ℕ → Answer Gap
+insert_gap b room k new = answered (judge b then insert_in (length b) room (count_in b) k new (row_slots (cols_in (drop 12 b)))) (gap_at b k 0 1)
 
-unfoldable pub delete_gap : List ℕ → ℕ → Gap
+unfoldable pub delete_gap : List ℕ → ℕ → Answer Gap
 delete_gap b k =
-    on_gap
+    answered
     (judge b
     then need (ltb k (count_in b)) out_of_turn 0
     then need (ltb 1 (count_in b)) breaks_rule 0)
@@ -132,7 +128,7 @@ module _ (len room count k : ℕ) (new : List ℕ) (ss : List Slot) where
   insert-far x h q = rw (lt-leb k count h) q
 
   module _ (h : k ≤ count) (v : Verdict) (ve : v ≡ offered_at ss new) where
-    pub insert-broken : (r : Refusal) → v ≡ Refused r → v ≡ insert_in len room count k new ss
+    pub insert-broken : (r : Refusal) → v ≡ Refused r → Refused r ≡ insert_in len room count k new ss
     unfolding insert_in
     insert-broken r z = rw (le-leb k count h, ← ve, z)
 
@@ -169,70 +165,65 @@ cols-fit b e =
     let c = apart (header_at b) _ (apart (front_at b) _ (sym (judge-front b) ∙ e)).0 in
     (both-fit b (apart (tables_at (drop 12 b)) _ c.1).0).1
 
-module _ (b : List ℕ) (j : Judgement) (je : j ≡ judged_of b) where
-  pub insert-judged : (room k : ℕ) (new : List ℕ) (r : Refusal) (g : Gap) → j.judged ≡ judged.Refused r → g ≡ no_gap (Refused r) → g ≡ insert_gap b room k new
+module _ (b : List ℕ) (u : Answer Judgement) (je : u ≡ judged_of b) where
+  pub insert-judged : (room k : ℕ) (new : List ℕ) (r : Refusal) → u ≡ Err r → Err r ≡ insert_gap b room k new
   unfolding insert_gap
-  insert-judged room k new r g z q = rw (refused-by b j je r z) q
+  insert-judged room k new r z = rw (refused-by b u je r z)
 
-  pub delete-judged : (k : ℕ) (r : Refusal) (g : Gap) → j.judged ≡ judged.Refused r → g ≡ no_gap (Refused r) → g ≡ delete_gap b k
+  pub delete-judged : (k : ℕ) (r : Refusal) → u ≡ Err r → Err r ≡ delete_gap b k
   unfolding delete_gap
-  delete-judged k r g z q = rw (refused-by b j je r z) q
+  delete-judged k r z = rw (refused-by b u je r z)
 
-  module _ (l c h f : ℕ) (q : j.judged ≡ judged.Good l c h f) where
-    good : GoodIs b j c h f
-    good = good-is b j l c h f je q
+  module _ (j : Judgement) (q : u ≡ Ok j) where
+    good : GoodIs b j
+    good = good-is b u j je q
 
-    pub address-reach : (j.address.count ≤ most_columns) × (j.address.count ≤ length j.address.forms)
-        × (j.address.count ≤ length j.address.flags) × (length b ≤ most_octets)
-    address-reach =
-        let fit = cols-fit b good.clears in
-        let x = fit.few in
-        let y = fit.forms in
-        let z = fit.flags in
-        (rw good.cols x, rw good.cols (omega arith), rw good.cols (omega arith), (good-keeps b good.clears).0)
+    pub book-short : length b ≤ most_octets
+    book-short = (good-keeps b good.clears).0
 
-    pub first_small : f < 2 ^ 32
+    pub first_small : j.first < 2 ^ 32
     first_small =
         let k = good-keeps b good.clears in
         let g = good.first in
         omega arith
 
-    place_is : (k at : ℕ) → k ≤ most_records → at ≡ walk_behind k f b → place_in b k ≡ at
-    place_is k at h y = sym (y ∙ walk-behind k f b first_small h ∙ walk-place b k f good.first)
+    place_is : (k at : ℕ) → k ≤ most_records → at ≡ walk_behind k j.first b → place_in b k ≡ at
+    place_is k at h y = sym (y ∙ walk-behind k j.first b first_small h ∙ walk-place b k j.first good.first)
 
     module _ (room k : ℕ) (new : List ℕ) (v : Verdict)
-        (ve : v ≡ insert_in (length b) room c k new (slots_from (take j.address.count j.address.forms) (take j.address.count j.address.flags))) where
+        (ve : v ≡ insert_in (length b) room j.count k new (slots_from (take j.address.count j.address.forms) (take j.address.count j.address.flags))) where
       verdict-is : insert_in (length b) room (count_in b) k new (row_slots (cols_in (drop 12 b))) ≡ v
       verdict-is =
           let cs : List Column = cols_in (drop 12 b) in
           sym (rw (good.cols, forms-in cs, bits_in cs, slots-row cs, good.count) at ve)
 
-      pub gap-refused : (r : Refusal) (g : Gap) → v ≡ Refused r → g ≡ no_gap v → g ≡ insert_gap b room k new
+      pub gap-refused : (r : Refusal) → v ≡ Refused r → Err r ≡ insert_gap b room k new
       unfolding insert_gap
-      gap-refused r g z y = rw (good.clears, verdict-is, z) (rw z at y)
+      gap-refused r z = rw (good.clears, verdict-is, z)
 
-      pub gap-few : v ≡ clear → (k ≤ most_records) × (c < most_records)
-      gap-few z = let i = insert-in (length b) room c k new _ (sym ve ∙ z) in (omega (arith, i.0, i.1), i.1)
+      pub gap-few : v ≡ clear → (k ≤ most_records) × (j.count < most_records)
+      gap-few z = let i = insert-in (length b) room j.count k new _ (sym ve ∙ z) in (omega (arith, i.0, i.1), i.1)
 
-      pub gap-insert : (at : ℕ) → v ≡ clear → at ≡ walk_behind k f b → ◌≡◌ {A = Gap} (record { verdict = v; place = at; end = at; count = c + 1 }) (insert_gap b room k new)
+      pub gap-insert : (at : ℕ) → v ≡ clear → at ≡ walk_behind k j.first b
+          → Ok (record { place = at; end = at; count = j.count + 1 }) ≡ insert_gap b room k new
       unfolding insert_gap
       gap-insert at z y =
-          let n : count_in b ≡ c = sym good.count in
+          let n : count_in b ≡ j.count = sym good.count in
           rw (good.clears, verdict-is, z, add-zero k, sub-zero (count_in b + 1), n, place_is k at (gap-few z).0 y)
 
     module _ (k : ℕ) where
-      pub gap-far : (x : Verdict) (g : Gap) → c ≤ k → x ≡ refused out_of_turn 0 → g ≡ no_gap x → g ≡ delete_gap b k
+      pub gap-far : (g : Answer Gap) → j.count ≤ k → g ≡ Err (refusal out_of_turn 0) → g ≡ delete_gap b k
       unfolding delete_gap
-      gap-far x g y u z =
-          let n : count_in b ≡ c = sym good.count in
-          rw (good.clears, n, le-ltb k c y) (rw u at z)
+      gap-far g y z =
+          let n : count_in b ≡ j.count = sym good.count in
+          rw (good.clears, n, le-ltb k j.count y) z
 
-      module _ (y : k < c) where
-        pub gap-only : (x : Verdict) (g : Gap) → c < 2 → x ≡ refused breaks_rule 0 → g ≡ no_gap x → g ≡ delete_gap b k
+      module _ (y : k < j.count) where
+        pub gap-only : (g : Answer Gap) → j.count < 2 → g ≡ Err (refusal breaks_rule 0) → g ≡ delete_gap b k
         unfolding delete_gap
-        gap-only x g o u z =
-            let n : count_in b ≡ c = sym good.count in
-            rw (good.clears, n, lt-ltb k c y, le-ltb 1 c (omega arith)) (rw u at z)
+        gap-only g o z =
+            let n : count_in b ≡ j.count = sym good.count in
+            rw (good.clears, n, lt-ltb k j.count y, le-ltb 1 j.count (omega arith)) z
 
         pub gap-near : k ≤ most_records
         gap-near =
@@ -240,7 +231,7 @@ module _ (b : List ℕ) (j : Judgement) (je : j ≡ judged_of b) where
             let m = good-keeps b good.clears in
             omega arith
 
-        module _ (at w : ℕ) (ae : at ≡ walk_behind k f b) (we : w ≡ word_of 4 (drop at b)) where
+        module _ (at w : ℕ) (ae : at ≡ walk_behind k j.first b) (we : w ≡ word_of 4 (drop at b)) where
           pub gap-end : Fits w64 (at + w)
           gap-end =
               let n = good.count in
@@ -248,22 +239,21 @@ module _ (b : List ℕ) (j : Judgement) (je : j ≡ judged_of b) where
               let s = rw (place_is k at gap-near ae, ← we) at (number-stands b good.clears k (omega arith)).whole in
               record { fits = omega arith }
 
-          pub gap-delete : 2 ≤ c → ◌≡◌ {A = Gap} (record { verdict = clear; place = at; end = at + w; count = c - 1 }) (delete_gap b k)
+          pub gap-delete : 2 ≤ j.count → Ok (record { place = at; end = at + w; count = j.count - 1 }) ≡ delete_gap b k
           unfolding delete_gap
           gap-delete o =
-              let n : count_in b ≡ c = sym good.count in
+              let n : count_in b ≡ j.count = sym good.count in
               let m : place_in b (k + 1) ≡ at + w = rw (place_is k at gap-near ae, ← we) at (place-next b k) in
-              rw (good.clears, n, lt-ltb k c y, lt-ltb 1 c (omega arith), add-zero c, m, place_is k at gap-near ae)
+              rw (good.clears, n, lt-ltb k j.count y, lt-ltb 1 j.count (omega arith), add-zero j.count, m, place_is k at gap-near ae)
 
 -- ---- the corrected book, and the verdict of the call
 
-on-clear : (v : Verdict) (p g : Gap) → g ≡ on_gap v p → g.verdict ≡ clear → (v ≡ clear) × (g ≡ p)
-on-clear clear p g e z = (refl, e)
-on-clear (Refused r) p g e z = no-clear (sym (ap (λ (x : Gap). x.verdict) e) ∙ z)
+on-clear : (v : Verdict) (p g : Gap) (u : Answer Gap) → u ≡ answered v p → u ≡ Ok g → (v ≡ clear) × (g ≡ p)
+on-clear v p g u e z = let a = answered-done v p g (sym e ∙ z) in (a.0, sym a.1)
 
-on-verdict : (v : Verdict) (p : Gap) → p.verdict ≡ clear → (on_gap v p).verdict ≡ v
-on-verdict clear p e = e
-on-verdict (Refused r) p e = refl
+on-verdict : (v : Verdict) (p : Gap) → verdict_of (answered v p) ≡ v
+on-verdict (Ok _) p = refl
+on-verdict (Refused r) p = refl
 
 corrected-long : (k m n : ℕ) (new b : List ℕ) → 12 ≤ place_in b k → place_in b k ≤ length b → length (corrected_of k m n new b) ≡ place_in b k + length new + (length b - place_in b (k + m))
 unfolding corrected_of resealed
@@ -293,26 +283,26 @@ behind_book m b k new n =
 
 same_size : (b new : List ℕ) (m k : ℕ) (v : Verdict) → judge b ≡ v → (v then behind_book m b k new (length (corrected_of k 0 1 new b))) ≡ (v then behind_book m b k new (length b + length new))
 same_size b new m k (Refused r) e = refl
-same_size b new m k clear e = split (count_in b) k (λ l. rw (lt-leb k (count_in b) l)) (λ l. ap (behind_book m b k new) (insert-size b new k e l))
+same_size b new m k (Ok _) e = split (count_in b) k (λ l. rw (lt-leb k (count_in b) l)) (λ l. ap (behind_book m b k new) (insert-size b new k e l))
 
-insert-verdict : (d new : List ℕ) (len k : ℕ) → len ≤ length d → insert_at d len k new ≡ (insert_gap (take len d) (length d) k new).verdict
+insert-verdict : (d new : List ℕ) (len k : ℕ) → len ≤ length d → insert_at d len k new ≡ verdict_of (insert_gap (take len d) (length d) k new)
 unfolding insert_at insert_gap book_at insert_in room_for room_in insert_book
 insert-verdict d new len k h =
     let b : List ℕ = take len d in
     rw (le-leb len (length d) h)
-    (same_size b new (length d) k (judge b) refl ∙ sym (on-verdict (judge b then behind_book (length d) b k new (length b + length new)) (gap_at b k 0 1) refl))
+    (same_size b new (length d) k (judge b) refl ∙ sym (on-verdict (judge b then behind_book (length d) b k new (length b + length new)) (gap_at b k 0 1)))
 
-delete-verdict : (d : List ℕ) (len k : ℕ) → len ≤ length d → delete_at d len k ≡ (delete_gap (take len d) k).verdict
+delete-verdict : (d : List ℕ) (len k : ℕ) → len ≤ length d → delete_at d len k ≡ verdict_of (delete_gap (take len d) k)
 unfolding delete_at delete_gap book_at
 delete-verdict d len k h =
     rw (le-leb len (length d) h)
-    (sym (on-verdict (judge (take len d) then need (ltb k (count_in (take len d))) out_of_turn 0 then need (ltb 1 (count_in (take len d))) breaks_rule 0) (gap_at (take len d) k 1 0) refl))
+    (sym (on-verdict (judge (take len d) then need (ltb k (count_in (take len d))) out_of_turn 0 then need (ltb 1 (count_in (take len d))) breaks_rule 0) (gap_at (take len d) k 1 0)))
 
 -- ---- insert
 
 module _ (d new : List ℕ) (len k : ℕ) where
   pub insert-short : length d < len → (r : Refusal) → r ≡ record { number = out_of_turn; place = 0 }
-      → made.Refused r ≡ insert_answer d len k new
+      → Err r ≡ insert_answer d len k new
   unfolding insert_answer insert_at book_at
   insert-short h r q = rw (lt-leb len (length d) h, q)
 
@@ -320,29 +310,29 @@ module _ (d new : List ℕ) (len k : ℕ) where
   unfolding insert_octets insert_at book_at
   insert-kept h = rw (lt-leb len (length d) h)
 
-  module _ (h : len ≤ length d) (g : Gap) (ge : g ≡ insert_gap (take (len - 0) d) (length d) k new) where
-    gap_is : g ≡ insert_gap (take len d) (length d) k new
+  module _ (h : len ≤ length d) (u : Answer Gap) (ge : u ≡ insert_gap (take (len - 0) d) (length d) k new) where
+    gap_is : u ≡ insert_gap (take len d) (length d) k new
     gap_is = rw (sub-zero len) at ge
 
-    verdict-was : insert_at d len k new ≡ g.verdict
-    verdict-was = insert-verdict d new len k h ∙ ap (λ (x : Gap). x.verdict) (sym gap_is)
+    verdict-was : insert_at d len k new ≡ verdict_of u
+    verdict-was = insert-verdict d new len k h ∙ ap (λ (x : Answer Gap). verdict_of x) (sym gap_is)
 
-    pub insert-refused : (r : Refusal) → g.verdict ≡ Refused r → made.Refused r ≡ insert_answer d len k new
+    pub insert-refused : (r : Refusal) → u ≡ Err r → Err r ≡ insert_answer d len k new
     unfolding insert_answer
     insert-refused r z = rw (verdict-was, z)
 
-    pub insert-left : (r : Refusal) → g.verdict ≡ Refused r → d ≡ insert_octets d len k new
+    pub insert-left : (r : Refusal) → u ≡ Err r → d ≡ insert_octets d len k new
     unfolding insert_octets
     insert-left r z = rw (verdict-was, z)
 
-    module _ (z : g.verdict ≡ clear) where
+    module _ (g : Gap) (z : u ≡ Ok g) where
       long : length (take len d) ≡ len
       long = length-take-le len d h
 
       both : (judge (take len d) ≡ clear) × (insert_in (length (take len d)) (length d) (count_in (take len d)) k new (row_slots (cols_in (drop 12 (take len d)))) ≡ clear) × (g ≡ gap_at (take len d) k 0 1)
       unfolding insert_gap
       both =
-          let c = on-clear _ _ g gap_is z in
+          let c = on-clear _ _ g u gap_is z in
           let a = apart (judge (take len d)) _ c.0 in
           (a.0, a.1, c.1)
 
@@ -356,7 +346,7 @@ module _ (d new : List ℕ) (len k : ℕ) where
           sums : (x : ℕ) → x ≤ len → len + length new ≤ length d → x + length new + (len - x) ≤ length d
           sums x h i = omega arith
 
-      pub insert-done : made.Done (len + length new) ≡ insert_answer d len k new
+      pub insert-done : Ok (len + length new) ≡ insert_answer d len k new
       unfolding insert_answer insert_book
       insert-done =
           let i = insert-in _ _ _ k new _ both.1 in
@@ -370,7 +360,7 @@ module _ (d new : List ℕ) (len k : ℕ) where
 
 module _ (d : List ℕ) (len k : ℕ) where
   pub delete-short : length d < len → (r : Refusal) → r ≡ record { number = out_of_turn; place = 0 }
-      → made.Refused r ≡ delete_answer d len k
+      → Err r ≡ delete_answer d len k
   unfolding delete_answer delete_at book_at
   delete-short h r q = rw (lt-leb len (length d) h, q)
 
@@ -378,29 +368,29 @@ module _ (d : List ℕ) (len k : ℕ) where
   unfolding delete_octets delete_at book_at
   delete-kept h = rw (lt-leb len (length d) h)
 
-  module _ (h : len ≤ length d) (g : Gap) (ge : g ≡ delete_gap (take (len - 0) d) k) where
-    gap-was : g ≡ delete_gap (take len d) k
+  module _ (h : len ≤ length d) (u : Answer Gap) (ge : u ≡ delete_gap (take (len - 0) d) k) where
+    gap-was : u ≡ delete_gap (take len d) k
     gap-was = rw (sub-zero len) at ge
 
-    delete-was : delete_at d len k ≡ g.verdict
-    delete-was = delete-verdict d len k h ∙ ap (λ (x : Gap). x.verdict) (sym gap-was)
+    delete-was : delete_at d len k ≡ verdict_of u
+    delete-was = delete-verdict d len k h ∙ ap (λ (x : Answer Gap). verdict_of x) (sym gap-was)
 
-    pub delete-refused : (r : Refusal) → g.verdict ≡ Refused r → made.Refused r ≡ delete_answer d len k
+    pub delete-refused : (r : Refusal) → u ≡ Err r → Err r ≡ delete_answer d len k
     unfolding delete_answer
     delete-refused r z = rw (delete-was, z)
 
-    pub delete-left : (r : Refusal) → g.verdict ≡ Refused r → d ≡ delete_octets d len k
+    pub delete-left : (r : Refusal) → u ≡ Err r → d ≡ delete_octets d len k
     unfolding delete_octets
     delete-left r z = rw (delete-was, z)
 
-    module _ (z : g.verdict ≡ clear) where
+    module _ (g : Gap) (z : u ≡ Ok g) where
       span : length (take len d) ≡ len
       span = length-take-le len d h
 
       whole : (judge (take len d) ≡ clear) × (k < count_in (take len d)) × (g ≡ gap_at (take len d) k 1 0)
       unfolding delete_gap
       whole =
-          let c = on-clear _ _ g gap-was z in
+          let c = on-clear _ _ g u gap-was z in
           let a = apart (judge (take len d)) _ c.0 in
           let t = apart (need (ltb k (count_in (take len d))) out_of_turn 0) _ a.1 in
           (a.0, ltb-true k (count_in (take len d)) (unmet _ out_of_turn 0 t.0), c.1)
@@ -414,7 +404,7 @@ module _ (d : List ℕ) (len k : ℕ) where
           let l = span in
           rw whole.2 (x, omega arith, omega arith, h, omega arith)
 
-      pub delete-done : made.Done (g.place + (len - g.end)) ≡ delete_answer d len k
+      pub delete-done : Ok (g.place + (len - g.end)) ≡ delete_answer d len k
       unfolding delete_answer delete_book
       delete-done =
           let s = place-stands (take len d) whole.0 k (below whole.1) in

@@ -5,49 +5,31 @@ ghost use Rattle.std.specs.Prelude.{◌≡◌, [], ◌+◌, ◌≤◌, length, t
 ghost use Rattle.answers.specs.Numbers.{most_columns, most_octets};
 ghost use Rattle.entry.specs.Slots.{slots_from};
 ghost use Rattle.correcting.specs.Correct.{offered_at, insert_answer, insert_octets, delete_answer, delete_octets};
-ghost use Rattle.inserting.specs.Cases.{no_gap, insert_in, insert_gap, delete_gap};
+ghost use Rattle.inserting.specs.Cases.{insert_in, insert_gap, delete_gap};
 
-use answers::{Made, Refusal, Verdict, refuse};
-use book::Judged;
+use answers::{Answer, Verdict, refuse};
 use table::Columns;
 
-// What is decided before anything is written: the verdict, where records are to be replaced from and up to, and the count behind it. All is 0 behind a
-// refusal.
+// What is decided before anything is written: where records are to be replaced from and up to, and the count behind it.
 #[derive(Clone, Copy)]
 struct Gap {
-    verdict: Verdict,
     place: usize,
     end: usize,
     count: usize,
 }
 
-fn no_gap(verdict: Verdict) -> Gap
-    ensures { result ≡ no_gap verdict }
-{
-    Gap {
-        verdict,
-        place: 0,
-        end: 0,
-        count: 0,
-    }
-}
-
 // An offered record to its last octet, keys aside; then its keys.
 fn judge_offered(new: &[u8], columns: Columns) -> Verdict
-    requires { (columns.count ≤ most_columns) × (columns.count ≤ length columns.forms)
-        × (columns.count ≤ length columns.flags) }
     ensures { result ≡ offered_at (slots_from (take columns.count columns.forms) (take columns.count columns.flags)) new.now }
 {
-    let n = columns.count;
-    let forms = columns.forms;
-    let flags = columns.flags;
-    let Verdict::Clear = entry::judge_record(new, 0, &forms[0..n], &flags[0..0]) else {
+    let forms = columns.forms();
+    let Ok(()) = entry::judge_record(new, 0, forms, &[]) else {
         return refuse(answers::BREAKS_FORM, 0);
     };
     if octets::word32(new, 0) as usize == new.len() {
-        let head = 4 + presence::octets_for(n);
-        if entry::keys_held(&new[4..head], &forms[0..n], &flags[0..n]) {
-            return Verdict::Clear;
+        let head = 4 + presence::octets_for(forms.len());
+        if entry::keys_held(&new[4..head], forms, columns.flags()) {
+            return Ok(());
         }
         return refuse(answers::BREAKS_RULE, 0);
     }
@@ -63,17 +45,13 @@ fn judge_insert(
     new: &[u8],
     columns: Columns,
 ) -> Verdict
-    requires { (columns.count ≤ most_columns) × (columns.count ≤ length columns.forms)
-        × (columns.count ≤ length columns.flags) × (len ≤ most_octets) }
+    requires { len ≤ most_octets }
     ensures { result ≡ insert_in len room count k new.now (slots_from (take columns.count columns.forms) (take columns.count columns.flags)) }
 {
     if count < k {
         return refuse(answers::OUT_OF_TURN, 0);
     }
-    let v = judge_offered(new, columns);
-    let Verdict::Clear = v else {
-        return v;
-    };
+    judge_offered(new, columns)?;
     if answers::MOST_RECORDS <= count {
         return refuse(answers::BREAKS_RULE, 0);
     }
@@ -84,102 +62,60 @@ fn judge_insert(
 }
 
 // The book is judged, then the offered record; its place is before record k.
-fn plan_insert(book: &[u8], room: usize, k: usize, new: &[u8]) -> Gap
+fn plan_insert(book: &[u8], room: usize, k: usize, new: &[u8]) -> Answer<Gap>
     ensures { result ≡ insert_gap book.now room k new.now }
 {
-    let j = book::judge(book);
-    let judged = j.judged;
-    match judged {
-        Judged::Refused(r) => no_gap(Verdict::Refused(r)),
-        Judged::Good {
-            length: _,
-            count,
-            header: _,
-            first,
-        } => {
-            let columns = j.address;
-            let verdict = judge_insert(book.len(), room, count, k, new, columns);
-            let Verdict::Clear = verdict else {
-                return no_gap(verdict);
-            };
-            let place = lookup::place_behind(book, first, k);
-            Gap {
-                verdict,
-                place,
-                end: place,
-                count: count + 1,
-            }
-        }
-    }
+    let j = book::judge(book)?;
+    judge_insert(book.len(), room, j.count, k, new, j.address)?;
+    let place = lookup::place_behind(book, j.first, k);
+    Ok(Gap {
+        place,
+        end: place,
+        count: j.count + 1,
+    })
 }
 
 // The book is judged, then record k is found. The only record stays.
-fn plan_delete(book: &[u8], k: usize) -> Gap
+fn plan_delete(book: &[u8], k: usize) -> Answer<Gap>
     ensures { result ≡ delete_gap book.now k }
 {
-    let j = book::judge(book);
-    let judged = j.judged;
-    match judged {
-        Judged::Refused(r) => no_gap(Verdict::Refused(r)),
-        Judged::Good {
-            length: _,
-            count,
-            header: _,
-            first,
-        } => {
-            if count <= k {
-                return no_gap(refuse(answers::OUT_OF_TURN, 0));
-            }
-            if count < 2 {
-                return no_gap(refuse(answers::BREAKS_RULE, 0));
-            }
-            let place = lookup::place_behind(book, first, k);
-            let end = place + octets::word32(book, place) as usize;
-            Gap {
-                verdict: Verdict::Clear,
-                place,
-                end,
-                count: count - 1,
-            }
-        }
+    let j = book::judge(book)?;
+    if j.count <= k {
+        return refuse(answers::OUT_OF_TURN, 0);
     }
+    if j.count < 2 {
+        return refuse(answers::BREAKS_RULE, 0);
+    }
+    let place = lookup::place_behind(book, j.first, k);
+    let end = place + octets::word32(book, place) as usize;
+    Ok(Gap {
+        place,
+        end,
+        count: j.count - 1,
+    })
 }
 
 // The offered record is put in before record k.
-pub fn insert(buf: &mut [u8], len: usize, k: usize, offered: &[u8]) -> Made
+pub fn insert(buf: &mut [u8], len: usize, k: usize, offered: &[u8]) -> Answer<usize>
     ensures { (result ≡ insert_answer buf.old len k offered.now) × (buf.new ≡ insert_octets buf.old len k offered.now) }
 {
     if buf.len() < len {
-        return Made::Refused(Refusal {
-            number: answers::OUT_OF_TURN,
-            place: 0,
-        });
+        return refuse(answers::OUT_OF_TURN, 0);
     }
-    let gap = plan_insert(&buf[0..len], buf.len(), k, offered);
-    let verdict = gap.verdict;
-    if let Verdict::Refused(r) = verdict {
-        return Made::Refused(r);
-    }
+    let gap = plan_insert(&buf[0..len], buf.len(), k, offered)?;
     editing::put_records(buf, len, gap.place, gap.end, offered, gap.count);
-    Made::Done(len + offered.len())
+    Ok(len + offered.len())
 }
 
 // Record k is taken out.
-pub fn delete(buf: &mut [u8], len: usize, k: usize) -> Made
+pub fn delete(buf: &mut [u8], len: usize, k: usize) -> Answer<usize>
     ensures { (result ≡ delete_answer buf.old len k) × (buf.new ≡ delete_octets buf.old len k) }
 {
     if buf.len() < len {
-        return Made::Refused(Refusal {
-            number: answers::OUT_OF_TURN,
-            place: 0,
-        });
+        return refuse(answers::OUT_OF_TURN, 0);
     }
-    let gap = plan_delete(&buf[0..len], k);
-    let verdict = gap.verdict;
-    if let Verdict::Refused(r) = verdict {
-        return Made::Refused(r);
-    }
+    let gap = plan_delete(&buf[0..len], k)?;
     let nothing = [0u8; 1];
     editing::put_records(buf, len, gap.place, gap.end, &nothing[0..0], gap.count);
-    Made::Done(gap.place + (len - gap.end))
+    Ok(gap.place + (len - gap.end))
 }

@@ -8,7 +8,8 @@ ghost use Rattle.framing.specs.Frame.{open_outcome, open_octets, close_outcome, 
 ghost use Rattle.giving.specs.Give.{Number, Truth, Octets, Count, give_outcome, give_octets, element_outcome, element_octets};
 ghost use Rattle.begin.specs.Begin.{begin_outcome, begin_octets};
 
-use writing::{Writing, Written};
+use answers::Answer;
+use writing::Writing;
 
 pub fn begin(
     st: &mut Writing,
@@ -17,7 +18,7 @@ pub fn begin(
     tags: &[u32],
     flags: &[u32],
     buf: &mut [u8],
-) -> Written
+) -> Answer<usize>
     ensures { (result ≡ (begin_outcome st.old htags.now hflags.now tags.now flags.now buf.old).answer)
         × (st.new ≡ (begin_outcome st.old htags.now hflags.now tags.now flags.now buf.old).state)
         × (buf.new ≡ begin_octets htags.now hflags.now tags.now flags.now buf.old) }
@@ -27,7 +28,7 @@ pub fn begin(
     outcome.answer
 }
 
-pub fn open(st: &mut Writing, buf: &mut [u8]) -> Written
+pub fn open(st: &mut Writing, buf: &mut [u8]) -> Answer<usize>
     ensures { (result ≡ (open_outcome st.old buf.old).answer) × (st.new ≡ (open_outcome st.old buf.old).state) × (buf.new ≡ open_octets st.old buf.old) }
 {
     let outcome = framing::open(*st, buf);
@@ -35,7 +36,7 @@ pub fn open(st: &mut Writing, buf: &mut [u8]) -> Written
     outcome.answer
 }
 
-pub fn close(st: &mut Writing, buf: &mut [u8]) -> Written
+pub fn close(st: &mut Writing, buf: &mut [u8]) -> Answer<usize>
     ensures { (result ≡ (close_outcome st.old buf.old).answer) × (st.new ≡ (close_outcome st.old buf.old).state) × (buf.new ≡ close_octets st.old buf.old) }
 {
     let outcome = framing::close(*st, buf);
@@ -43,7 +44,7 @@ pub fn close(st: &mut Writing, buf: &mut [u8]) -> Written
     outcome.answer
 }
 
-pub fn finish(st: &mut Writing, buf: &mut [u8]) -> Written
+pub fn finish(st: &mut Writing, buf: &mut [u8]) -> Answer<usize>
     ensures { (result ≡ (finish_outcome st.old buf.old).answer) × (st.new ≡ (finish_outcome st.old buf.old).state) × (buf.new ≡ finish_octets st.old buf.old) }
 {
     let outcome = framing::finish(*st, buf);
@@ -51,7 +52,7 @@ pub fn finish(st: &mut Writing, buf: &mut [u8]) -> Written
     outcome.answer
 }
 
-pub fn give_number(st: &mut Writing, buf: &mut [u8], tag: u32, value: u32) -> Written
+pub fn give_number(st: &mut Writing, buf: &mut [u8], tag: u32, value: u32) -> Answer<usize>
     ensures { (result ≡ (give_outcome st.old buf.old tag (Number value)).answer) × (st.new ≡ (give_outcome st.old buf.old tag (Number value)).state) × (buf.new ≡ give_octets st.old buf.old tag (Number value)) }
 {
     let outcome = giving::give_number(*st, buf, tag, value);
@@ -59,7 +60,7 @@ pub fn give_number(st: &mut Writing, buf: &mut [u8], tag: u32, value: u32) -> Wr
     outcome.answer
 }
 
-pub fn give_truth(st: &mut Writing, buf: &mut [u8], tag: u32, yes: bool) -> Written
+pub fn give_truth(st: &mut Writing, buf: &mut [u8], tag: u32, yes: bool) -> Answer<usize>
     ensures { (result ≡ (give_outcome st.old buf.old tag (Truth yes)).answer) × (st.new ≡ (give_outcome st.old buf.old tag (Truth yes)).state) × (buf.new ≡ give_octets st.old buf.old tag (Truth yes)) }
 {
     let outcome = giving::give_truth(*st, buf, tag, yes);
@@ -68,7 +69,7 @@ pub fn give_truth(st: &mut Writing, buf: &mut [u8], tag: u32, yes: bool) -> Writ
 }
 
 // Octets without their length or their final 0.
-pub fn give_octets(st: &mut Writing, buf: &mut [u8], tag: u32, s: &[u8]) -> Written
+pub fn give_octets(st: &mut Writing, buf: &mut [u8], tag: u32, s: &[u8]) -> Answer<usize>
     ensures { (result ≡ (give_outcome st.old buf.old tag (Octets s.now)).answer) × (st.new ≡ (give_outcome st.old buf.old tag (Octets s.now)).state) × (buf.new ≡ give_octets st.old buf.old tag (Octets s.now)) }
 {
     let outcome = giving::give_octets(*st, buf, tag, s);
@@ -77,7 +78,7 @@ pub fn give_octets(st: &mut Writing, buf: &mut [u8], tag: u32, s: &[u8]) -> Writ
 }
 
 // The count of a list, whose elements follow one at a time.
-pub fn give_list(st: &mut Writing, buf: &mut [u8], tag: u32, count: u32) -> Written
+pub fn give_list(st: &mut Writing, buf: &mut [u8], tag: u32, count: u32) -> Answer<usize>
     ensures { (result ≡ (give_outcome st.old buf.old tag (Count count)).answer) × (st.new ≡ (give_outcome st.old buf.old tag (Count count)).state) × (buf.new ≡ give_octets st.old buf.old tag (Count count)) }
 {
     let outcome = giving::give_list(*st, buf, tag, count);
@@ -85,7 +86,7 @@ pub fn give_list(st: &mut Writing, buf: &mut [u8], tag: u32, count: u32) -> Writ
     outcome.answer
 }
 
-pub fn add_number(st: &mut Writing, buf: &mut [u8], value: u32) -> Written
+pub fn add_number(st: &mut Writing, buf: &mut [u8], value: u32) -> Answer<usize>
     ensures { (result ≡ (element_outcome st.old buf.old (Number value)).answer) × (st.new ≡ (element_outcome st.old buf.old (Number value)).state) × (buf.new ≡ element_octets st.old buf.old (Number value)) }
 {
     let outcome = giving::add_number(*st, buf, value);
@@ -93,7 +94,7 @@ pub fn add_number(st: &mut Writing, buf: &mut [u8], value: u32) -> Written
     outcome.answer
 }
 
-pub fn add_octets(st: &mut Writing, buf: &mut [u8], s: &[u8]) -> Written
+pub fn add_octets(st: &mut Writing, buf: &mut [u8], s: &[u8]) -> Answer<usize>
     ensures { (result ≡ (element_outcome st.old buf.old (Octets s.now)).answer) × (st.new ≡ (element_outcome st.old buf.old (Octets s.now)).state) × (buf.new ≡ element_octets st.old buf.old (Octets s.now)) }
 {
     let outcome = giving::add_octets(*st, buf, s);

@@ -1,144 +1,184 @@
-// What a program that runs stored cases reads and writes. Lines go to standard output by way of a buffer: each function puts octets behind the
-// first `at` of it and answers where the next one goes. Cases come from standard input: a length in four octets, least first, and as many octets.
+// What a program that runs stored cases reads and prints. A case on standard input is a length in four octets, least
+// first, and as many octets.
 #![tactic(auto)]
 
-ghost use Rattle.std.specs.Prelude.{◌≡◌, ◌≤◌, ◌<◌};
+mod kept;
 
-// Where there is no case, or none that the buffer holds.
-pub const NO_CASE: usize = 65536;
+ghost use Rattle.std.specs.Prelude.{◌≡◌, ◌<◌, ◌≤◌, length, IfSome, Some};
+ghost use Rattle.lines.specs.Text.{hex_text, refused_text, answered_text, found_text};
 
-// ---- lines
+use answers::{Answer, Refusal};
+pub use kept::{Kept, Words, behind};
+use std::fmt;
+use std::fmt::Write;
 
-// Writes out what the buffer holds.
-pub fn flush(out: &[u8; 4096], at: usize) -> usize
-    ensures { result ≡ 0 }
-{
-    if at <= 4096 {
-        let all = &out[..];
-        io::write_all(1, &all[0..at]);
+// ---- what is printed
+
+const ROOM: usize = 4096;
+
+// Text on its way to standard output: the first `len` octets are still to be written.
+#[derive(Drop)]
+pub struct Lines {
+    octets: [u8; ROOM],
+    len: usize,
+    ghost within: { len ≤ 4096 },
+}
+
+impl Lines {
+    pub fn new() -> Lines {
+        Lines {
+            octets: [0; ROOM],
+            len: 0,
+        }
     }
-    0
-}
 
-// A place inside the buffer: a full buffer is written out.
-fn place(out: &[u8; 4096], at: usize) -> usize
-    ensures { result < 4096 }
-{
-    if at < 4096 {
-        return at;
+    // Writes them. What standard output doesn't take is lost.
+    pub fn flush(&mut self)
+        ensures { self.new.len ≡ 0 }
+    {
+        io::write_all(1, &self.octets[..self.len]);
+        self.len = 0;
     }
-    flush(out, 4096)
-}
 
-pub fn put(out: &mut [u8; 4096], at: usize, b: u8) -> usize
-    ensures { result ≤ 4096 }
-{
-    let i = place(out, at);
-    out[i] = b;
-    i + 1
-}
-
-pub fn words(out: &mut [u8; 4096], at: usize, s: &[u8]) -> usize
-    ensures { result ≤ 4096 }
-{
-    let mut to = place(out, at);
-    let mut i = 0;
-    while i < s.len() {
-        to = put(out, to, s[i]);
-        i += 1;
+    // Makes room for an octet: where there is none, all are written.
+    fn make_room(&mut self)
+        ensures { self.new.len < 4096 }
+    {
+        if ROOM <= self.len {
+            self.flush();
+        }
     }
-    to
+
+    fn put(&mut self, octet: u8) {
+        self.make_room();
+        self.octets[self.len] = octet;
+        self.len += 1;
+    }
 }
 
-pub fn decimal(out: &mut [u8; 4096], at: usize, n: u64) -> usize
-    ensures { result ≤ 4096 }
+impl fmt::Write for Lines {
+    fn write_str(&mut self, s: &str) -> fmt::Result {
+        for octet in s.as_bytes() {
+            self.put(*octet);
+        }
+        Ok(())
+    }
+}
+
+// Prints octets: two digits each, `-` for none.
+#[derive(Clone, Copy)]
+pub struct Hex<'a>(pub &'a [u8]);
+
+impl fmt::Display for Hex<'_> {
+    ghost output = { λ h. Some (hex_text h.0.now) };
+
+    fn fmt<W: fmt::Write>(&self, f: &mut fmt::Formatter<W>) -> fmt::Result {
+        if self.0.is_empty() {
+            return f.write_str("-");
+        }
+        for octet in self.0 {
+            write!(f, "{octet:02X}")?;
+        }
+        Ok(())
+    }
+}
+
+// Prints a refusal: its number and its place.
+#[derive(Clone, Copy)]
+pub struct Refused(pub Refusal);
+
+impl fmt::Display for Refused {
+    ghost output = { λ r. Some (refused_text r.0) };
+
+    fn fmt<W: fmt::Write>(&self, f: &mut fmt::Formatter<W>) -> fmt::Result {
+        write!(f, "refused {} {}", self.0.number, self.0.place)
+    }
+}
+
+// Prints a word and the number that a call answers, or its refusal.
+#[derive(Clone, Copy)]
+pub struct Answered<'a>(pub &'a str, pub Answer<usize>);
+
+impl fmt::Display for Answered<'_> {
+    ghost output = { λ a. Some (answered_text a.0.now a.1) };
+
+    fn fmt<W: fmt::Write>(&self, f: &mut fmt::Formatter<W>) -> fmt::Result {
+        match self.1 {
+            Ok(n) => write!(f, "{} {n}", self.0),
+            Err(r) => write!(f, "{}", Refused(r)),
+        }
+    }
+}
+
+// Prints where a value stands, and its octets; that there is none; or the refusal.
+#[derive(Clone, Copy)]
+pub struct Found<'a>(pub Answer<Option<(usize, usize)>>, pub &'a [u8]);
+
+impl fmt::Display for Found<'_> {
+    ghost output = { λ a. Some (found_text a.0 a.1.now) };
+
+    fn fmt<W: fmt::Write>(&self, f: &mut fmt::Formatter<W>) -> fmt::Result {
+        match self.0 {
+            Ok(Some((start, end))) => write!(f, "at {start} {end} {}", Hex(self.1)),
+            Ok(None) => write!(f, "absent"),
+            Err(r) => write!(f, "{}", Refused(r)),
+        }
+    }
+}
+
+// ---- what is read
+
+// No case is longer.
+const MOST_OCTETS: usize = 65535;
+
+// No stream has more cases.
+pub const MOST_CASES: usize = 100000;
+
+// Whether standard input has as many octets as are asked for.
+pub fn fill(octets: &mut [u8]) -> bool {
+    io::read_full(0, octets) == octets.len()
+}
+
+// The cases of standard input, read into the same octets one after the other.
+#[derive(Drop)]
+struct Cases {
+    octets: [u8; MOST_OCTETS],
+}
+
+impl Cases {
+    fn new() -> Cases {
+        Cases {
+            octets: [0; MOST_OCTETS],
+        }
+    }
+
+    // The next case; none where the input ends, is cut off or can't be read, and none that is too long for the octets.
+    fn next_case(&mut self) -> Option<&mut [u8]>
+        ensures { IfSome result (λ case. length case.now ≤ 65535) }
+    {
+        let mut head = [0; 4];
+        if !fill(&mut head) {
+            return None;
+        }
+        let case = self.octets.get_mut(..u32::from_le_bytes(head) as usize)?;
+        if fill(case) { Some(case) } else { None }
+    }
+}
+
+// Hands each case of standard input to `answer`, which prints its line.
+pub fn answer_cases<F>(mut answer: F)
+where
+    F: FnMut(&mut Lines, &mut [u8]) -> fmt::Result,
+    requires { F.IsAlwaysCallable answer }
 {
-    let mut digits = [0u8; 20];
-    let k = io::decimal(n, &mut digits);
-    words(out, at, &digits[0..k])
-}
-
-// A space and a number.
-pub fn next_decimal(out: &mut [u8; 4096], at: usize, n: u64) -> usize
-    ensures { result ≤ 4096 }
-{
-    let to = put(out, at, b' ');
-    decimal(out, to, n)
-}
-
-fn hex_digit(d: u8) -> u8 {
-    if d < 10 {
-        return 48 + d;
+    let mut cases = Cases::new();
+    let mut out = Lines::new();
+    for _ in 0..MOST_CASES {
+        let Some(case) = cases.next_case() else {
+            break;
+        };
+        // Lines take every text.
+        let _ = answer(&mut out, case);
     }
-    if d < 16 {
-        return 55 + d;
-    }
-    b'?'
-}
-
-fn hex_octet(out: &mut [u8; 4096], at: usize, b: u8) -> usize
-    ensures { result ≤ 4096 }
-{
-    let to = put(out, at, hex_digit(b / 16));
-    put(out, to, hex_digit(b % 16))
-}
-
-// Eight digits.
-pub fn hex_word(out: &mut [u8; 4096], at: usize, n: u32) -> usize
-    ensures { result ≤ 4096 }
-{
-    let to = hex_octet(out, at, (n / 16777216) as u8);
-    let to = hex_octet(out, to, (n / 65536 % 256) as u8);
-    let to = hex_octet(out, to, (n / 256 % 256) as u8);
-    hex_octet(out, to, (n % 256) as u8)
-}
-
-// Two digits an octet; `-` for none.
-pub fn hex(out: &mut [u8; 4096], at: usize, s: &[u8]) -> usize
-    ensures { result ≤ 4096 }
-{
-    if s.len() == 0 {
-        return put(out, at, b'-');
-    }
-    let mut to = place(out, at);
-    let mut i = 0;
-    while i < s.len() {
-        to = hex_octet(out, to, s[i]);
-        i += 1;
-    }
-    to
-}
-
-// ---- cases
-
-fn wide(x: u8) -> usize
-    ensures { result < 256 }
-{
-    x as usize
-}
-
-// Reads `n` octets to the front of the buffer; whether they are there.
-fn read_octets(buf: &mut [u8], n: usize) -> bool {
-    if buf.len() < n {
-        return false;
-    }
-    io::read_full(0, &mut buf[0..n]) == n
-}
-
-// The next case is read to the front of the buffer; its length.
-pub fn next_case(buf: &mut [u8; 65536]) -> usize
-    ensures { result ≤ 65536 }
-{
-    let mut head = [0u8; 4];
-    if !read_octets(&mut head, 4) {
-        return NO_CASE;
-    }
-    let n = wide(head[0]) + wide(head[1]) * 256 + wide(head[2]) * 65536 + wide(head[3]) * 16777216;
-    if NO_CASE <= n {
-        return NO_CASE;
-    }
-    if !read_octets(buf, n) {
-        return NO_CASE;
-    }
-    n
+    out.flush();
 }

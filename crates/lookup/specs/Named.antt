@@ -7,8 +7,8 @@ use Rattle.value.specs.Types.{form_of}
 use Rattle.value.specs.Form.{IsValue}
 use Rattle.table.specs.Table.{Column, SoundTable}
 use Rattle.table.specs.Columns.{tags_of}
-use Rattle.table.specs.declared.Found.{Found}
-use Rattle.table.specs.declared.Found.TheVariants.{At, Nothing}
+use Rattle.table.specs.Found.{Found}
+use Rattle.table.specs.Found.{At, Nothing}
 use Rattle.entry.specs.Present.{Row}
 use Rattle.entry.specs.Record.{Slot, no_slot, SoundRow, sound-entry}
 use Rattle.book.specs.Book.{Book, Sound, slots_of, slots-long, head_slots, row_slots, records_place, count_in}

@@ -1,13 +1,13 @@
 -- The rows of the book that stands in octets, by the places of its records; and in an accepted book the values of a
 -- record stand between its edges.
-use Rattle.std.specs.Prelude.{ℕ, zero, suc, ◌+◌, ◌≤◌, ◌<◌, ◌≡◌, true, List, [], ◌∷◌, ◌++◌, length, get_or, drop}
+use Rattle.std.specs.Prelude.{ℕ, zero, suc, ◌+◌, ◌<◌, ◌≡◌, true, List, [], ◌++◌, length, get_or, drop}
 use Rattle.std.proofs.Common.{arith, sym, ap, ap₂, ◌∙◌, drop-drop, ltb-true}
 use Rattle.std.proofs.Math.Option.{none}
 use Rattle.std.proofs.Math.Seq.{drop-append_seam}
 use Rattle.octets.specs.Octets.{Octets}
 use Rattle.octets.specs.Splice.{stored}
 use Rattle.octets.specs.Word.{word_of}
-use Rattle.answers.specs.declared.Verdict.TheVariants.{Clear as clear}
+use Rattle.answers.specs.Verdict.{clear}
 use Rattle.table.specs.Table.{Column}
 use Rattle.table.specs.Columns.{forms_of, bits_of, forms-long}
 use Rattle.entry.specs.Record.{Slot, row_octets, row-size}

@@ -5,8 +5,8 @@ use Rattle.std.proofs.lemmas.Bool.{eqb-false}
 use Rattle.table.specs.Table.{Column, SoundColumns, SoundTable}
 use Rattle.table.specs.Columns.{tags_of}
 use Rattle.table.specs.Repeat.{memb}
-use Rattle.table.specs.declared.Found.{Found}
-use Rattle.table.specs.declared.Found.TheVariants.{At, Nothing}
+use Rattle.table.specs.Found.{Found}
+use Rattle.table.specs.Found.{At, Nothing}
 use Rattle.table.specs.Seen.{seen_apart}
 use Rattle.lookup.specs.Look.{one_on, column_in}
 

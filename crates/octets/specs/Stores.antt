@@ -1,15 +1,17 @@
 -- Stores one behind the other, over one another and before one another: what is laid down in parts is one store.
 -- Assumes nothing.
-use Rattle.std.specs.Prelude.{ℕ, zero, suc, ◌+◌, ◌-◌, ◌≤◌, ◌<◌, ◌≡◌, refl, List, [], ◌∷◌, ◌++◌, take, set}
+use Rattle.std.specs.Prelude.{ℕ, zero, suc, ◌+◌, ◌-◌, ◌≤◌, ◌<◌, ◌≡◌, refl, List, [], ◌∷◌, ◌++◌, take, set, replicate}
 use Rattle.std.proofs.Common.{arith, sym, ap₂, ◌∙◌, append_assoc, length-append, length-drop, length-set, take-append-drop, take_at, take-take, take-add, drop-set-lt, drop-cons, drop-drop, get_or-set_same}
 use Rattle.std.proofs.Math.Path.{ap}
 use Rattle.std.proofs.Math.ListN.{length, drop}
-use Rattle.std.proofs.Math.Seq.{length-take-le, drop_at, drop-append-add}
-use Rattle.std.proofs.lemmas.List.{take-set-le}
+use Rattle.std.proofs.Math.Seq.{length-take-le, drop_at, drop-append-add, paste, slice, length-slice}
+use Rattle.std.proofs.lemmas.List.{take-set-le, length-replicate}
+use Rattle.std.proofs.lemmas.Slice.{between_is}
 use borrow.Rule.Slice.PartMut.{put_mid}
 use Rattle.octets.specs.Cases.{split}
 use Rattle.octets.specs.Splice.{splice, splice-nil, splice-cons, splice-join, splice-within, length-splice}
-use Rattle.octets.specs.Splice.{stored, stored-in, stored-out, stored-join}
+use Rattle.octets.specs.Splice.{stored, stored-in, stored-out, stored-join, moved, moved_to}
+use Rattle.octets.specs.Word.{le_of, length-le_of}
 
 -- ---- one octet more
 
@@ -151,6 +153,36 @@ part-back d a e m h k l =
     rw (stored-in d a m (omega arith), z)
     (ap (λ (l : List ℕ). take a d ++ (m ++ l)) (drop-drop (e - a) a d ∙ ap (λ (u : ℕ). drop u d) y)
     ∙ sym (append_assoc (take a d) m (drop e d)))
+
+-- the part cleared, copied to or moved in one step
+pub part_cleared : (d : List ℕ) (a e : ℕ) (m : List ℕ) → m ≡ replicate (length (take (e - a) (drop a d))) 0 → a ≤ e → e ≤ length d
+    → put_mid a (e - a) d m ≡ stored d a (replicate (e - a) 0)
+part_cleared d a e m q h k =
+    let n : length (take (e - a) (drop a d)) ≡ e - a = length-take-le (e - a) (drop a d) (simp length-drop (omega arith)) in
+    let f : m ≡ replicate (e - a) 0 = rw n at q in
+    let l : length m ≡ e - a = ap length f ∙ length-replicate (e - a) 0 in
+    part-back d a e m h k l ∙ ap (stored d a) f
+
+pub part_copied : (d : List ℕ) (i : ℕ) (vs m : List ℕ) → m ≡ vs → length vs ≤ length d → i ≤ length d - length vs
+    → put_mid i (i + length vs - i) d m ≡ stored d i vs
+part_copied d i vs m q h k = part-back d i (i + length vs) m (omega arith) (omega arith) (ap length q ∙ omega arith) ∙ ap (stored d i) q
+
+pub part_word : (d : List ℕ) (i n v : ℕ) (m : List ℕ) → m ≡ le_of (length (take (i + n - i) (drop i d))) v → n ≤ length d → i ≤ length d - n
+    → put_mid i (i + n - i) d m ≡ stored d i (le_of n v)
+part_word d i n v m q h k =
+    let y : i + n - i ≡ n = omega arith in
+    let z : length (take n (drop i d)) ≡ n = length-take-le n (drop i d) (simp length-drop (omega arith)) in
+    let f : m ≡ le_of n v = rw (y, z) at q in
+    part-back d i (i + n) m (omega arith) (omega arith) (ap length f ∙ length-le_of n v ∙ omega arith) ∙ ap (stored d i) f
+
+pub part_moved : (x d : List ℕ) (i e to : ℕ) → x ≡ paste d to (drop i d) (e - i) → i ≤ e → e ≤ length d → to ≤ length d - (e - i)
+    → x ≡ moved d i e to
+unfolding splice
+part_moved x d i e to q h k l =
+    let n : length (slice i e d) ≡ e - i = length-slice i e d k in
+    let b : take (e - i) (drop i d) ≡ slice i e d = between_is d i e in
+    let y : x ≡ splice d to (slice i e d) = rw (n, ← b) q in
+    moved_to x d i e to y h k l
 
 -- ---- in lists that are known part by part
 

@@ -6,8 +6,12 @@ use Prim.Native.Nat.{ℕ, zero, suc, ◌+◌, ◌-◌, ◌*◌, ◌/◌, ◌%◌
 use Rattle.std.proofs.Math.Nat.{sub-zero, pow-le-pow_right, one-le-pow}
 use Rattle.std.proofs.Math.Arith.{lt-one}
 use Rattle.std.proofs.Math.ListN.{length-drop, drop_of_length-le}
+use Rattle.std.specs.List.{fold}
+use Rattle.std.specs.Prelude.{reverse}
+use Rattle.std.proofs.lemmas.List.{take_more, take_more_set, reverse-append}
+use Rattle.std.proofs.lemmas.List.Sums.{fold_push}
 use Rattle.std.specs.Int.{w8, w64}
-use Rattle.octets.specs.Octets.{Octets, octets-take, octet_at}
+use Rattle.octets.specs.Octets.{Octets, octets-take, octet_at, octets-from}
 use Rattle.octets.specs.Splice.{splice, stored, splice-none, copy_step, copy-end, stored-in, stored-out}
 
 -- x in n octets, the lowest first
@@ -245,3 +249,47 @@ put_in x d i n v q h k =
     q ∙ sym (stored-in d i (le_of n v) (omega arith))
 
 pub ruleset puts = (splice-none, put-start, put_step, put-left, put-end, put-not, put-not-there, put_in)
+
+-- ---- a whole part as a word, taken in from its last octet, and a whole part written
+
+abbrev pub taken_in : ℕ → ℕ → ℕ
+taken_in r b = r * 2 ^ 8 % 2 ^ 64 + b
+
+all-taken : (bs : List ℕ) → length bs ≤ 8 → Octets bs → fold taken_in 0 (reverse bs) ≡ val_of bs
+all-taken [] h o = refl
+all-taken (b ∷ bs) h o =
+    let q : Octets bs = λ j. o (suc j) in
+    let p : val_of bs < 256 ^ 7 = word-most (length bs) 7 (val_of bs) (omega arith) (val-small bs q) in
+    ap (fold taken_in 0) (reverse-append (b ∷ []) bs) ∙ fold_push taken_in 0 (reverse bs) b ∙ rw (all-taken bs (omega arith) q) (omega arith)
+
+pub get_all : (r : ℕ) (bs : List ℕ) → r ≡ fold taken_in 0 (reverse bs) → length bs ≤ 8 → ((i : ℕ) → Fits w8 (get_or bs i 0))
+    → (r ≡ val_of bs) × (r < 256 ^ length bs)
+get_all r bs e h f =
+    let o : Octets bs = octets-from bs f in
+    let q : r ≡ val_of bs = e ∙ all-taken bs h o in
+    (q, rw q (val-small bs o))
+
+module _ (r n : ℕ) (xs : List ℕ) (i : ℕ) (h : n ≤ 8) where
+  pub word_in : n ≤ length xs - i → r ≡ val_of (take (i + n - i) (drop i xs)) → r < 256 ^ length (take (i + n - i) (drop i xs))
+      → (r ≡ narrow_word n (drop i xs)) × (r < 256 ^ n)
+  unfolding word_of
+  word_in l e m =
+      let k : i + n - i ≡ n = omega arith in
+      let q : length (take n (drop i xs)) ≡ n = length-take-le n (drop i xs) (simp length-drop (omega arith)) in
+      (word-there xs i n h r (rw k at e), rw (k, q) at m)
+
+  pub word_rest : length xs - i < n → r ≡ val_of (take (length xs - i) (drop i xs)) → r < 256 ^ length (take (length xs - i) (drop i xs))
+      → (r ≡ narrow_word n (drop i xs)) × (r < 256 ^ n)
+  unfolding word_of
+  word_rest l e m = (word_cut xs i n h r e l, word-most (length (take (length xs - i) (drop i xs))) n r (rw length-take (omega arith)) m)
+
+module _ (n v x j : ℕ) (f : le_of (n - j) x ≡ drop j (le_of n v)) (h : j < n) where
+  pub put_on : (d : List ℕ) → take j d ≡ take j (le_of n v) → length d ≡ n → take (j + 1) (set d j (x % 256)) ≡ take (j + 1) (le_of n v)
+  put_on d e k =
+      let l : length (le_of n v) ≡ n = length-le_of n v in
+      rw (take_more_set d j (x % 256) (omega arith), take_more (le_of n v) j 0 (omega arith), (le-turn n v x j h f).0, e)
+
+pub put_all : (d : List ℕ) (n v j : ℕ) → take j d ≡ take j (le_of n v) → n ≤ j → length d ≡ n → d ≡ le_of n v
+put_all d n v j e h k =
+    let l : length (le_of n v) ≡ n = length-le_of n v in
+    rw (take_all j d (omega arith), take_all j (le_of n v) (omega arith)) at e

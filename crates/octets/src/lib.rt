@@ -15,5 +15,5 @@ pub use words::{put_word, word, word32};
 pub fn octet(s: &[u8], i: usize) -> u32
     ensures { (result ≡ octet_at s.now i) × (result < 256) }
 {
-    if i < s.len() { s[i] as u32 } else { 0 }
+    if i < s.len() { u32::from(s[i]) } else { 0 }
 }

@@ -1,43 +1,29 @@
 // Little-endian words of any width up to eight octets.
-ghost use Rattle.std.specs.Prelude.{◌≡◌, ◌+◌, ◌^◌, ◌≤◌, ◌<◌, length, drop};
-ghost use Rattle.octets.specs.Splice.{splice, stored};
-ghost use Rattle.octets.specs.Word.{le_of, word_of, narrow_word};
+ghost use Rattle.std.specs.Prelude.{◌≡◌, ◌^◌, ◌≤◌, ◌<◌, length, drop};
+ghost use Rattle.octets.specs.Splice.{stored};
+ghost use Rattle.octets.specs.Word.{le_of, val_of, word_of, narrow_word};
 
-fn wide(x: u8) -> u64
-    ensures { result ≡ x }
+// The number that all of `s` says, which is eight octets at most.
+fn get(s: &[u8]) -> u64
+    requires { length s.now ≤ 8 }
+    ensures { (result ≡ val_of s.now) × (result < 256 ^ length s.now) }
 {
-    x as u64
-}
-
-// The `n` octets from `i`, which are there.
-fn get(s: &[u8], i: usize, n: usize) -> u64
-    requires { (n ≤ 8) × (i + n ≤ length s.now) }
-    ensures { (result ≡ word_of n (drop i s.now)) × (result < 256 ^ n) }
-{
-    let mut r: u64 = 0;
-    let mut k = n;
-    while 0 < k {
-        k -= 1;
-        r = (r << 8) + wide(s[i + k]);
-    }
-    r
+    s.iter().rev().fold(0, |r: u64, b| (r << 8) + u64::from(*b))
 }
 
 // The number in the `n` octets from `i`, octets past the end counting as 0; 0 where `n` is over eight.
 pub fn word(s: &[u8], i: usize, n: usize) -> u64
     ensures { (result ≡ narrow_word n (drop i s.now)) × (result < 256 ^ n) }
 {
-    if 8 < n {
-        return 0;
+    if n <= 8 && i < s.len() {
+        if s.len() - i < n {
+            get(&s[i..])
+        } else {
+            get(&s[i..i + n])
+        }
+    } else {
+        0
     }
-    if s.len() <= i {
-        return 0;
-    }
-    let left = s.len() - i;
-    if left < n {
-        return get(s, i, left);
-    }
-    get(s, i, n)
 }
 
 // The four octets of a field.
@@ -47,28 +33,22 @@ pub fn word32(s: &[u8], i: usize) -> u32
     word(s, i, 4) as u32
 }
 
-// The `n` lowest octets of `v` are stored from `i`, where they fit.
-fn put(d: &mut [u8], i: usize, n: usize, v: u64)
-    requires { i + n ≤ length d.old }
-    ensures { d.new ≡ splice d.old i (le_of n v) }
+// The lowest octets of `v`, as many as `d` has room for.
+fn put(d: &mut [u8], v: u64)
+    ensures { d.new ≡ le_of (length d.old) v }
 {
     let mut x = v;
-    let mut j = 0;
-    while j < n {
-        d[i + j] = (x % 256) as u8;
-        x = x >> 8;
-        j += 1;
+    for b in d.iter_mut() {
+        *b = (x % 256) as u8;
+        x >>= 8;
     }
 }
 
+// The `n` lowest octets of `v` are stored from `i`, where they fit.
 pub fn put_word(d: &mut [u8], i: usize, n: usize, v: u64)
     ensures { d.new ≡ stored d.old i (le_of n v) }
 {
-    if d.len() < n {
-        return;
+    if n <= d.len() && i <= d.len() - n {
+        put(&mut d[i..i + n], v);
     }
-    if d.len() - n < i {
-        return;
-    }
-    put(d, i, n, v);
 }

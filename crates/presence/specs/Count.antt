@@ -1,14 +1,19 @@
 -- Values counted by whole octets (02, #104): an octet's count of ones is the sum of its eight bits, and of the last
 -- octet only the bits of columns count. Assumes nothing.
-use Rattle.std.specs.Prelude.{◌≡◌, refl, List, ℕ, zero, suc, ◌+◌, ◌-◌, ◌*◌, ◌/◌, ◌%◌, ◌^◌, ◌<◌, ◌≤◌}
-use Rattle.std.proofs.Common.{sym, ap, ◌∙◌, add-zero, add-suc, add_assoc, add_comm, div-one, add-one, arith, shr-shr, pow_pos, Fits-le}
+use Rattle.std.specs.Prelude.{◌≡◌, refl, List, length, take, get_or, min, ℕ, zero, suc, ◌+◌, ◌-◌, ◌*◌, ◌/◌, ◌%◌, ◌^◌, ◌<◌, ◌≤◌}
+use Rattle.std.proofs.Common.{sym, ap, ◌∙◌, add-zero, add-suc, add_assoc, add_comm, div-one, add-one, arith, shr-shr, pow_pos, Fits-le, Fits, take-suc, take_all, le_refl}
 use Rattle.std.proofs.Math.Nat.{div-eq_of_lt}
 use Rattle.std.specs.Int.Bits.{bit_and}
 use Rattle.std.proofs.lemmas.Nat.Bits.{and_high}
 use Rattle.std.proofs.lemmas.Nat.{and_le_l, ones_cat, ones-le}
 use Rattle.std.specs.Int.Count.{ones, ones_step}
 use Rattle.std.proofs.Math.Pow.{shr_mod}
-use Rattle.octets.specs.Octets.{octet_at, Octets}
+use Rattle.std.specs.Int.{w8}
+use Rattle.std.specs.List.{sum_by}
+use Rattle.std.proofs.lemmas.List.Sums.{sum_by_push}
+use Rattle.std.proofs.Math.ListN.{get_or-eq_default}
+use Rattle.octets.specs.Cases.{split}
+use Rattle.octets.specs.Octets.{octet_at, Octets, octets-from}
 use Rattle.presence.specs.Presence.{bit_of, bit_at, ones_in, bit-lt, low}
 
 -- the sum of an octet's m highest bits
@@ -133,3 +138,33 @@ by-octets xs n o =
     let k : whole_ones xs (n / 8) ≡ ones_in xs (n / 8 * 8) = whole-ones xs o (n / 8) in
     let l = count-last xs n (n / 8) (whole_ones xs (n / 8)) x k (omega arith) (omega arith) refl (o (n / 8)) in
     sym (rw (mask_is x (n % 8) (o (n / 8)) (omega arith)) at l)
+
+-- the whole octets that are there
+sum-whole : (xs : List ℕ) (j : ℕ) → sum_by ones (take j xs) ≡ whole_ones xs j
+sum-whole xs zero = refl
+sum-whole xs (suc j) =
+    split j (length xs)
+    (λ h. rw (take-suc xs j 0 h, sum_by_push ones (take j xs) (get_or xs j 0), sum-whole xs j))
+    (λ h. rw (take_all (suc j) xs (omega arith), get_or-eq_default xs 0 h, no_ones, add-zero) (rw (take_all j xs h) at (sum-whole xs j)))
+
+sum-min : (xs : List ℕ) (j : ℕ) → sum_by ones (take (min j (length xs)) xs) ≡ whole_ones xs j
+sum-min xs j =
+    split j (length xs)
+    (λ h. let m : min j (length xs) ≡ j = omega arith in rw m (sum-whole xs j))
+    (λ h. let m : min j (length xs) ≡ length xs = omega arith in
+    rw (m, take_all (length xs) xs (le_refl (length xs))) (rw (take_all j xs h) at (sum-whole xs j)))
+
+module _ (xs : List ℕ) (n m : ℕ) (f : (i : ℕ) → Fits w8 (get_or xs i 0)) (e : m ≡ min (n / 8) (length xs)) where
+  sum-in : sum_by ones (take m xs) ≡ ones_in xs (n / 8 * 8)
+  sum-in = rw e (sum-min xs (n / 8)) ∙ whole-ones xs (octets-from xs f) (n / 8)
+
+  pub sum_fits : n < 2 ^ 64 → sum_by ones (take m xs) < 2 ^ 64
+  sum_fits h =
+      let l : ones_in xs (n / 8 * 8) ≤ n / 8 * 8 = ones-most xs (n / 8 * 8) in
+      rw sum-in (omega arith)
+
+  pub sum_count : (k x : ℕ) → k ≡ sum_by ones (take m xs) → x ≡ octet_at xs (n / 8) → x < 256
+      → (k + ones (bit_and x (255 - 255 / 2 ^ (n % 8))) ≡ ones_in xs n) × (k + ones (bit_and x (255 - 255 / 2 ^ (n % 8))) ≤ n)
+  sum_count k x q g h =
+      let p = count-last xs n (n / 8) k x (q ∙ sum-in) (omega arith) (omega arith) g h in
+      (p, rw p (ones-most xs n))

@@ -1,5 +1,5 @@
 -- Presence bits (2.9.5): column 0 is the top bit of the first octet, and the bits behind the last column are spare. Assumes nothing.
-use Rattle.std.specs.Prelude.{◌≡◌, refl, Bool, true, List, [], ◌∷◌, ◌++◌, ℕ, zero, suc, ◌+◌, ◌-◌, ◌*◌, ◌/◌, ◌%◌, ◌^◌, ◌<◌, ◌≤◌, eqb, length, set}
+use Rattle.std.specs.Prelude.{◌≡◌, refl, Bool, true, List, ℕ, zero, suc, ◌+◌, ◌-◌, ◌*◌, ◌/◌, ◌%◌, ◌^◌, ◌<◌, ◌≤◌, eqb, length, set}
 use Rattle.std.proofs.Common.{sym, ap, ◌∙◌, one-mul, mod-eq_of_lt, one-add, arith, pow-add, eqb-true, get_or-set_same, get_or-set_other, ext_get_or}
 use Rattle.std.proofs.Math.Nat.{zero-div, zero-mod, div-eq_of_lt, mod-one}
 use Rattle.std.proofs.Math.Decide.{dec_lt, ℕ_discrete}

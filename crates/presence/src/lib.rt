@@ -2,7 +2,9 @@
 // first octet.
 #![tactic(auto)]
 
-ghost use Rattle.std.specs.Prelude.{◌≡◌, ◌≤◌};
+ghost use Rattle.std.specs.Prelude.{◌≡◌, ◌^◌, ◌<◌, ◌≤◌};
+ghost use Rattle.std.specs.Int.Count.{ones};
+ghost use Rattle.std.specs.List.{sum_by};
 ghost use Rattle.presence.specs.Presence.{room, bit_at, is_set, set_bit, clear_bit, spare_clear, ones_in};
 
 use octets::octet;
@@ -11,7 +13,7 @@ use octets::octet;
 pub fn octets_for(n: usize) -> usize
     ensures { result ≡ room n }
 {
-    if n % 8 == 0 { n / 8 } else { n / 8 + 1 }
+    n.div_ceil(8)
 }
 
 // Column i as 0 or 1; 0 past the end.
@@ -58,15 +60,20 @@ pub fn spare_clear(s: &[u8], n: usize) -> bool
     ensures { result ≡ spare_clear s.now n }
 {
     let k = n % 8;
-    if k == 0 {
-        return true;
-    }
     let at = n / 8;
-    if at < s.len() {
+    if k != 0 && at < s.len() {
         s[at] & 0xff >> k == 0
     } else {
         true
     }
+}
+
+// The ones of whole octets.
+fn ones(s: &[u8]) -> usize
+    requires { sum_by ones s.now < 2 ^ 64 }
+    ensures { result ≡ sum_by ones s.now }
+{
+    s.iter().map(|b| b.count_ones() as usize).sum()
 }
 
 // How many of the first n columns have a value: the ones of the whole octets, and of the last one's n % 8 highest bits.
@@ -74,12 +81,6 @@ pub fn count(s: &[u8], n: usize) -> usize
     ensures { (result ≡ ones_in s.now n) × (result ≤ n) }
 {
     let whole = n / 8;
-    let mut k = 0;
-    let mut at = 0;
-    while at < whole {
-        k += u8::count_ones(octet(s, at) as u8) as usize;
-        at += 1;
-    }
     let last = octet(s, whole) as u8 & !(0xff >> n % 8);
-    k + u8::count_ones(last) as usize
+    ones(&s[..whole.min(s.len())]) + last.count_ones() as usize
 }

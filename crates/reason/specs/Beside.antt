@@ -1,19 +1,19 @@
 -- Beside the lookup of the same record and tag, for any octets: where that finds a value the answer is 18, where it
 -- says absent the reply is listed or not listed, and its refusals are answered too, save the 15 for an unknown tag,
 -- where the reply is another type or no column.
-use Rattle.std.specs.Prelude.{ℕ, ◌≡◌, Bool, true, not, List, length, get_or}
+use Rattle.std.specs.Prelude.{Err, Some, None, Ok, ℕ, ◌≡◌, Bool, true, not, List, length, get_or}
 use Rattle.std.proofs.Math.Path.{refl}
 use Rattle.std.proofs.Common.{sym, ap, ◌∙◌, lt-ltb}
 use Rattle.std.proofs.Math.Bool.{false}
 use Rattle.std.proofs.Math.Option.{Option, none, some}
 use Rattle.octets.specs.Octets.{Octets}
 use Rattle.answers.specs.Numbers.{out_of_turn, breaks_form}
-use Rattle.answers.specs.declared.Verdict.{Verdict}
-use Rattle.answers.specs.declared.Verdict.TheVariants.{Clear as clear, Refused}
+use Rattle.answers.specs.Verdict.{Verdict}
+use Rattle.answers.specs.Verdict.{clear, Refused}
 use Rattle.answers.specs.declared.Refusal.{Refusal}
-use Rattle.answers.specs.Verdict.{◌then◌, need}
-use Rattle.table.specs.declared.Found.{Found}
-use Rattle.table.specs.declared.Found.TheVariants.{At, Nothing}
+use Rattle.answers.specs.Verdict.{need}
+use Rattle.table.specs.Found.{Found}
+use Rattle.table.specs.Found.{At, Nothing}
 use Rattle.entry.specs.Present.{Row, there}
 use Rattle.entry.specs.Record.{unlike}
 use Rattle.book.specs.Book.{Book, judge}
@@ -24,9 +24,8 @@ use Rattle.lookup.specs.Named.{There, tags_under, row_for, has_record, start_for
 use Rattle.lookup.specs.Named.{value_in, value_for}
 use Rattle.lookup.specs.declared.Which.{Which}
 use Rattle.lookup.specs.declared.Which.TheVariants as which
-use Rattle.lookup.specs.declared.Looked.{Looked}
-use Rattle.lookup.specs.declared.Looked.TheVariants as looked
-use Rattle.reason.specs.declared.Reason.{Reason}
+use Rattle.lookup.specs.Looked.{Looked}
+use Rattle.reason.specs.Reply.{Reply}
 use Rattle.reason.specs.declared.Reason.TheVariants as reason
 use Rattle.reason.specs.Why.{upper, uppers_of, rows_place, other_by, other_type, is_listed}
 use Rattle.reason.specs.Why.{presence_place, absent_at, reply_by, reply_in, reason_by, why_at, why_of}
@@ -37,18 +36,18 @@ abbrev pub unknown_tag : Refusal
 unknown_tag = record { number = out_of_turn; place = 0 }
 
 -- what may be answered beside what the lookup answers
-abbrev pub Beside : Looked → Reason → Type 0
-Beside (looked.At s e) r = present ≡ r
-Beside looked.Absent (reason.Listed p) = Unit {0}
-Beside looked.Absent (reason.NotListed p) = Unit {0}
-Beside looked.Absent (reason.OtherType u p) = ⊥
-Beside looked.Absent reason.NoColumn = ⊥
-Beside looked.Absent (reason.Refused r) = ⊥
-Beside (looked.Refused q) (reason.Refused r) = q ≡ r
-Beside (looked.Refused q) (reason.OtherType u p) = unknown_tag ≡ q
-Beside (looked.Refused q) reason.NoColumn = unknown_tag ≡ q
-Beside (looked.Refused q) (reason.Listed p) = ⊥
-Beside (looked.Refused q) (reason.NotListed p) = ⊥
+abbrev pub Beside : Looked → Reply → Type 0
+Beside (Ok (Some (s, e))) r = present ≡ r
+Beside (Ok None) (Ok (reason.Listed p)) = Unit {0}
+Beside (Ok None) (Ok (reason.NotListed p)) = Unit {0}
+Beside (Ok None) (Ok (reason.OtherType u p)) = ⊥
+Beside (Ok None) (Ok reason.NoColumn) = ⊥
+Beside (Ok None) (Err r) = ⊥
+Beside (Err q) (Err r) = q ≡ r
+Beside (Err q) (Ok (reason.OtherType u p)) = unknown_tag ≡ q
+Beside (Err q) (Ok reason.NoColumn) = unknown_tag ≡ q
+Beside (Err q) (Ok (reason.Listed p)) = ⊥
+Beside (Err q) (Ok (reason.NotListed p)) = ⊥
 
 -- ---- of a record that is there
 
@@ -67,7 +66,7 @@ module _ (b : Book) (w : Which) (at t : ℕ) (place : ℕ → ℕ) where
       other Nothing = refl
       other (At i) = refl
 
-      absent : (l : Bool) (p : ℕ) → Beside looked.Absent (absent_at l p)
+      absent : (l : Bool) (p : ℕ) → Beside (Ok None) (absent_at l p)
       absent true p = tt
       absent false p = tt
 
@@ -102,7 +101,7 @@ module _ (xs : List ℕ) (o : Octets xs) (w : Which) (t : ℕ) where
   unfolding lookup_of look_in why_of why_at
   not_there e h = rw (e, h) (by w h)
     where
-      by : (w : Which) → has_record xs w ≡ false → Beside (look_in xs w t) (reason.Refused unknown_tag)
+      by : (w : Which) → has_record xs w ≡ false → Beside (look_in xs w t) (Err unknown_tag)
       by which.Header h = unlike (sym h)
       by (which.Number k) h = rw h refl
 
@@ -118,5 +117,5 @@ module _ (xs : List ℕ) (o : Octets xs) (w : Which) (t : ℕ) where
       record-by e false h = not_there e h
 
       by : (v : Verdict) → judge xs ≡ v → Beside (lookup_of xs w t) (why_of xs w t)
-      by clear e = record-by e (has_record xs w) refl
+      by (Ok _) e = record-by e (has_record xs w) refl
       by (Refused r) e = refused-beside r e

@@ -1,7 +1,6 @@
 -- The ways of the code that tells why, on plain values.
-use Rattle.std.specs.Prelude.{ℕ, zero, suc, ◌+◌, ◌-◌, ◌*◌, ◌/◌, ◌^◌, ◌≤◌, ◌<◌, ◌≡◌, Bool, true, false, not, List, [], ◌∷◌, ltb, length, take, drop, replicate}
+use Rattle.std.specs.Prelude.{eqb, Ok, Err, ℕ, zero, suc, ◌+◌, ◌-◌, ◌*◌, ◌/◌, ◌^◌, ◌≤◌, ◌<◌, ◌≡◌, Bool, true, false, not, List, [], ◌∷◌, ltb, length, take, drop, replicate}
 use native.Mathlib.Omega.{arith}
-use Rattle.std.proofs.Math.Nat.{sub-zero}
 use Rattle.std.proofs.Math.Path.{refl, ap}
 use Rattle.std.proofs.Common.{sym, ◌∙◌, length-drop, length-take, drop-drop, Fits}
 use Rattle.std.proofs.Math.Bool.{cond}
@@ -12,11 +11,12 @@ use borrow.Author.Tests.{eq-eqb, ne_eqb, lt-ltb, le-ltb}
 use Rattle.octets.specs.Octets.{Octets, octets-from, rest_of}
 use Rattle.octets.specs.Splice.{stored}
 use Rattle.answers.specs.Numbers.{out_of_turn, breaks_form, most_columns}
-use Rattle.answers.specs.declared.Verdict.TheVariants.{Clear as clear}
+use Rattle.answers.specs.Verdict.{clear}
 use Rattle.answers.specs.Verdict.{need, apart}
 use Rattle.answers.specs.declared.Refusal.{Refusal}
-use Rattle.whole.specs.declared.Number.{Number}
-use Rattle.whole.specs.declared.Number.TheVariants.{Is, Broken}
+use Rattle.answers.specs.Verdict.{Answer}
+use Rattle.whole.specs.Number.{Number}
+use Rattle.whole.specs.Number.{Some, Broken}
 use Rattle.whole.specs.Number.{number_of}
 use Rattle.whole.specs.Laws.{number-within}
 use Rattle.value.specs.Form.{value-some}
@@ -24,35 +24,36 @@ use Rattle.table.specs.Table.{Column}
 use Rattle.table.specs.Columns.{tags_of, forms_of, columns_in}
 use Rattle.table.specs.Repeat.{memb}
 use Rattle.table.specs.declared.Columns.{Columns}
-use Rattle.table.specs.declared.Found.{Found}
-use Rattle.table.specs.declared.Found.TheVariants.{At, Nothing}
+use Rattle.table.specs.Found.{Found}
+use Rattle.table.specs.Found.{At, Nothing}
 use Rattle.entry.specs.Present.{there}
 use Rattle.entry.specs.Values.{entry_octets}
 use Rattle.edges.specs.Edges.{most_edges, edges_in, cell_in}
-use Rattle.book.specs.Book.{Book, Sound, heads_in, cols_in, head_count, col_count, records_place, tables_at, body_at, count_in}
+use Rattle.book.specs.Book.{Sound, heads_in, cols_in, head_count, col_count, records_place, tables_at, body_at, count_in}
 use Rattle.book.specs.Book.{header_at, judge}
 use Rattle.book.specs.Judged.{judged_of}
 use Rattle.book.specs.JudgeCases.{both-fit, table-long}
-use Rattle.book.specs.Good.{GoodIs, good-is, refused-by, good-keeps, tags-in, forms-in, reach-tags, reach-forms}
+use Rattle.book.specs.Good.{GoodIs, good-is, refused-by, good-keeps, tags-in, forms-in}
 use Rattle.book.specs.Read.{book_in, book-reads, heads-are, cols-are, rows-count}
 use Rattle.book.specs.declared.Judgement.{Judgement}
-use Rattle.book.specs.declared.Judged.TheVariants as judged
 use Rattle.lookup.specs.Places.{walk_behind, walk-behind, place_in}
 use Rattle.lookup.specs.Look.{column_in}
 use Rattle.lookup.specs.Laws.{column-below, column-in}
-use Rattle.lookup.specs.Cases.{moved_by, find-start, find_none, find-here, find-next, walk-place}
+use Rattle.std.specs.List.{position_from, position_or_len}
+use Rattle.std.proofs.lemmas.Iterator.Adapters.{position_from-zero}
+use Rattle.lookup.specs.Cases.{find-start, position-column, walk-place}
 use Rattle.lookup.specs.Back.{record-good}
 use Rattle.lookup.specs.Named.{There, columns_for, row_for, columns-sound, value-formed, start_for}
 use Rattle.lookup.specs.Named.{value_in, value_for}
 use Rattle.lookup.specs.Read.{record-cells}
 use Rattle.lookup.specs.declared.Which.{Which}
 use Rattle.lookup.specs.declared.Which.TheVariants as which
-use Rattle.reason.specs.declared.Reason.{Reason}
+use Rattle.reason.specs.Reply.{Reply}
 use Rattle.reason.specs.declared.Reason.TheVariants as reason
 use Rattle.reason.specs.Why.{upper, uppers_of, rows_place, other_type, truncated, read}
 use Rattle.reason.specs.Why.{numbers_from, numbers_in, listed_in, is_listed, presence_place, absent_at, reply_by}
 use Rattle.reason.specs.Why.{reply_in, reason_by, why_at, why_of}
-use Rattle.reason.specs.Halves.{uppers-long, upper-at}
+use Rattle.reason.specs.Halves.{uppers-long}
 use Rattle.reason.specs.Cause.{present, answer_in, why-is}
 
 -- the truncated properties as they stand between their edges
@@ -63,7 +64,7 @@ cell_by (At d) b edges = cell_in b edges d
 unfoldable pub cell_listed : List ℕ → List ℕ → List ℕ → ℕ → Bool
 cell_listed b edges tags t = memb t (numbers_in (cell_by (column_in truncated tags) b edges))
 
-unfoldable pub cell_why : List ℕ → List ℕ → List ℕ → ℕ → ℕ → ℕ → Reason
+unfoldable pub cell_why : List ℕ → List ℕ → List ℕ → ℕ → ℕ → ℕ → Reply
 cell_why b edges tags c at t =
     cond (ltb 0 (length (cell_in b edges c))) present (absent_at (cell_listed b edges tags t) (presence_place at c))
 
@@ -71,11 +72,11 @@ cell_why b edges tags c at t =
 unfoldable pub edges_at : List ℕ → ℕ → List ℕ → List ℕ
 edges_at forms at b = stored (replicate most_edges 0) 0 (edges_in forms at (drop at b))
 
-unfoldable pub table_why : List ℕ → List ℕ → List ℕ → ℕ → ℕ → ℕ → Reason
+unfoldable pub table_why : List ℕ → List ℕ → List ℕ → ℕ → ℕ → ℕ → Reply
 table_why b tags forms at rows t =
     reply_by (column_in t tags) (other_type tags rows t) (λ c. cell_why b (edges_at forms at b) tags c at t)
 
-abbrev pub columns_why : List ℕ → Columns → ℕ → ℕ → ℕ → Reason
+abbrev pub columns_why : List ℕ → Columns → ℕ → ℕ → ℕ → Reply
 columns_why b columns at rows t =
     table_why b (take columns.count columns.tags) (take columns.count columns.forms) at rows t
 
@@ -86,11 +87,11 @@ module _ (s : List ℕ) (t : ℕ) (r : Number) (q : r ≡ number_of s) where
   unfolding numbers_in
   holds-none e = rw (← q, e)
 
-  pub holds-start : (n w : ℕ) → r ≡ Is n w → memb t (numbers_from n (drop w s)) ≡ memb t (numbers_in s)
+  pub holds-start : (n w : ℕ) → r ≡ Some (n, w) → memb t (numbers_from n (drop w s)) ≡ memb t (numbers_in s)
   unfolding numbers_in
   holds-start n w e = rw (← q, e)
 
-  pub holds-within : (n w : ℕ) → r ≡ Is n w → w ≤ length s
+  pub holds-within : (n w : ℕ) → r ≡ Some (n, w) → w ≤ length s
   holds-within n w e = number-within r s n w e q
 
 from_step : (n : ℕ) (xs : List ℕ) → 0 < n
@@ -99,27 +100,31 @@ unfolding numbers_from
 from_step zero xs h = absurd (omega arith)
 from_step (suc n) xs h = let e : suc n - 1 ≡ n = omega arith in rw e
 
-module _ (s : List ℕ) (t left i : ℕ) (inv : memb t (numbers_from left (drop i s)) ≡ memb t (numbers_in s)) where
-  pub holds-end : left ≤ 0 → false ≡ memb t (numbers_in s)
+-- k of n numbers are read
+module _ (s : List ℕ) (t n k i : ℕ) (inv : memb t (numbers_from (n - k) (drop i s)) ≡ memb t (numbers_in s)) where
+  pub holds-end : n ≤ k → false ≡ memb t (numbers_in s)
   unfolding numbers_from
-  holds-end h = let z : left ≡ 0 = omega arith in rw z at inv
+  holds-end h = let z : n - k ≡ 0 = omega arith in rw z at inv
 
-  module _ (h : 0 < left) (r : Number) (q : r ≡ number_of (take (length s - i) (drop i s))) where
+  module _ (h : k < n) (r : Number) (q : r ≡ number_of (take (length s - i) (drop i s))) where
     number_is : number_of (drop i s) ≡ r
     number_is = rw (rest_of s i) at (sym q)
 
+    left : 0 < n - k
+    left = omega arith
+
     pub holds-cut : r ≡ Broken → false ≡ memb t (numbers_in s)
-    holds-cut e = rw (from_step left (drop i s) h, number_is, e) at inv
+    holds-cut e = rw (from_step (n - k) (drop i s) left, number_is, e) at inv
 
-    module _ (v u : ℕ) (e : r ≡ Is v u) where
+    module _ (v u : ℕ) (e : r ≡ Some (v, u)) where
       pub holds-here : t ≡ v → true ≡ memb t (numbers_in s)
-      holds-here z = rw (from_step left (drop i s) h, number_is, e, eq-eqb t v z) at inv
+      holds-here z = rw (from_step (n - k) (drop i s) left, number_is, e, eq-eqb t v z) at inv
 
-      pub holds-next : (t ≡ v → ⊥) → memb t (numbers_from (left - 1) (drop (i + u) s)) ≡ memb t (numbers_in s)
-      holds-next z = rw (from_step left (drop i s) h, number_is, e, ne_eqb t v z, drop-drop u i s) at inv
+      pub holds-next : (t ≡ v → ⊥) → memb t (numbers_from (n - (k + 1)) (drop (i + u) s)) ≡ memb t (numbers_in s)
+      holds-next z = let m : n - k - 1 ≡ n - (k + 1) = omega arith in rw (from_step (n - k) (drop i s) left, number_is, e, ne_eqb t v z, drop-drop u i s, m) at inv
 
 module _ (s : List ℕ) (i : ℕ) (h : i ≤ length s) (r : Number) (q : r ≡ number_of (take (length s - i) (drop i s)))
-    (v u : ℕ) (e : r ≡ Is v u) where
+    (v u : ℕ) (e : r ≡ Some (v, u)) where
   pub holds-in : i + u ≤ length s
   holds-in = omega (arith, rw (length-drop i s) at (number-within r (drop i s) v u e (rw (rest_of s i) at q)))
 
@@ -131,34 +136,27 @@ pub ruleset holding =
 
 -- ---- find_half and other_type
 
-module _ (tag : ℕ) (tags : List ℕ) where
-  pub half-start : moved_by 0 (column_in (upper tag) (uppers_of tags)) ≡ column_in (upper tag) (uppers_of tags)
-  half-start = find-start (upper tag) (uppers_of tags)
+half-position : (tag i : ℕ) (tags : List ℕ)
+    → position_from (λ x. eqb (upper tag) (upper x)) i tags ≡ position_from (eqb (upper tag)) i (uppers_of tags)
+half-position tag i [] = refl
+half-position tag i (x ∷ xs) = rw (half-position tag (i + 1) xs)
 
-  module _ (i : ℕ)
-      (inv : moved_by i (column_in (upper tag) (drop i (uppers_of tags))) ≡ column_in (upper tag) (uppers_of tags)) where
-    pub half-none : length tags ≤ i → Nothing ≡ column_in (upper tag) (uppers_of tags)
-    half-none h = find_none (upper tag) (uppers_of tags) i inv (rw (uppers-long tags) h)
-
-    module _ (h : i < length tags) where
-      pub half-here : tag / 65536 ≡ get_or tags i 0 / 65536 → At i ≡ column_in (upper tag) (uppers_of tags)
-      half-here e =
-          find-here (upper tag) (uppers_of tags) i inv (rw (uppers-long tags) h) (e ∙ sym (upper-at tags i))
-
-      pub half-next : (tag / 65536 ≡ get_or tags i 0 / 65536 → ⊥)
-          → moved_by (i + 1) (column_in (upper tag) (drop (i + 1) (uppers_of tags))) ≡ column_in (upper tag) (uppers_of tags)
-      half-next e =
-          find-next (upper tag) (uppers_of tags) i inv (rw (uppers-long tags) h) (λ z. e (z ∙ upper-at tags i))
-
-pub ruleset halves = (half-start, half-none, half-here, half-next)
+-- the first column of the upper half, as a search by rows answers it
+pub half-found : (tag : ℕ) (tags : List ℕ)
+    → cond (ltb (position_or_len (λ x. eqb (upper tag) (upper x)) tags) (length tags))
+    (At (position_or_len (λ x. eqb (upper tag) (upper x)) tags)) Nothing
+    ≡ column_in (upper tag) (uppers_of tags)
+half-found tag tags =
+    position_from-zero (λ x. eqb (upper tag) (upper x)) tags ∙ half-position tag 0 tags
+    ∙ position-column (upper tag) 0 (uppers_of tags) ∙ find-start (upper tag) (uppers_of tags)
 
 module _ (tags : List ℕ) (rows t : ℕ) (f : Found) (q : f ≡ column_in (upper t) (uppers_of tags)) where
-  pub other_none : f ≡ Nothing → reason.NoColumn ≡ other_type tags rows t
+  pub other_none : f ≡ Nothing → Ok reason.NoColumn ≡ other_type tags rows t
   unfolding other_type
   other_none e = rw (← q, e)
 
   module _ (i : ℕ) (e : f ≡ At i) where
-    pub other-some : reason.OtherType (get_or tags i 0) (rows + 8 * i) ≡ other_type tags rows t
+    pub other-some : (Ok (reason.OtherType (get_or tags i 0) (rows + 8 * i))) ≡ other_type tags rows t
     unfolding other_type
     other-some = rw (← q, e)
 
@@ -196,11 +194,11 @@ module _ (b : List ℕ) (edges : List ℕ) (tags : List ℕ) (c at t : ℕ) (v :
   absent-not h = rw (← ve, lt-ltb 0 (length v) h)
 
   module _ (h : length v ≤ 0) (l : Bool) (le : l ≡ cell_listed b edges tags t) where
-    pub absent-listed : l ≡ true → reason.Listed (at + 4 + c / 8) ≡ cell_why b edges tags c at t
+    pub absent-listed : l ≡ true → Ok (reason.Listed (at + 4 + c / 8)) ≡ cell_why b edges tags c at t
     unfolding cell_why
     absent-listed e = rw (← ve, le-ltb 0 (length v) h, ← le, e)
 
-    pub absent-unlisted : l ≡ false → reason.NotListed (at + 4 + c / 8) ≡ cell_why b edges tags c at t
+    pub absent-unlisted : l ≡ false → Ok (reason.NotListed (at + 4 + c / 8)) ≡ cell_why b edges tags c at t
     unfolding cell_why
     absent-unlisted e = rw (← ve, le-ltb 0 (length v) h, ← le, e)
 
@@ -208,32 +206,31 @@ pub ruleset absences = (absent-not, absent-listed, absent-unlisted)
 
 -- ---- why_in
 
-module _ (b tags forms : List ℕ) (n at rows t : ℕ) (f : Found) (q : f ≡ column_in t (take (n - 0) tags))
-    (r : Reason) where
+module _ (b tags forms : List ℕ) (n at rows t : ℕ) (ts : List ℕ) (te : ts ≡ take n tags) (f : Found)
+    (q : f ≡ column_in t ts) (r : Reply) where
   found-is : column_in t (take n tags) ≡ f
-  found-is = rw (sub-zero n) at (sym q)
+  found-is = rw te at (sym q)
 
-  pub in-none : f ≡ Nothing → r ≡ other_type (take (n - 0) tags) rows t
-      → r ≡ table_why b (take n tags) (take n forms) at rows t
+  pub in-none : f ≡ Nothing → r ≡ other_type ts rows t → r ≡ table_why b (take n tags) (take n forms) at rows t
   unfolding table_why
-  in-none e z = rw (found-is, e) (rw (sub-zero n) at z)
+  in-none e z = rw (found-is, e) (rw te at z)
 
-  pub in_some : (c : ℕ) (edges : List ℕ) → f ≡ At c
-      → edges ≡ stored (replicate most_edges 0) 0 (edges_in (take (n - 0) forms) at (drop at b))
-      → r ≡ cell_why b edges (take (n - 0) tags) c at t → r ≡ table_why b (take n tags) (take n forms) at rows t
+  pub in_some : (c : ℕ) (edges fs : List ℕ) → f ≡ At c → fs ≡ take n forms
+      → edges ≡ stored (replicate most_edges 0) 0 (edges_in fs at (drop at b))
+      → r ≡ cell_why b edges ts c at t → r ≡ table_why b (take n tags) (take n forms) at rows t
   unfolding table_why edges_at
-  in_some c edges e y z = rw (found-is, e) (rw (y, sub-zero n) at z)
+  in_some c edges fs e x y z = rw (found-is, e) (rw (y, x, te) at z)
 
 pub ruleset ins = (in-none, in_some)
 
-pub tags-few : (tags : List ℕ) (n : ℕ) → n ≤ most_columns → length (take (n - 0) tags) ≤ most_columns
-tags-few tags n h = rw (sub-zero n, length-take n tags) (omega arith)
+pub tags-few : (tags : List ℕ) (n : ℕ) (ts : List ℕ) → ts ≡ take n tags → n ≤ most_columns → length ts ≤ most_columns
+tags-few tags n ts e h = rw (e, length-take n tags) (omega arith)
 
-pub column-few : (tags : List ℕ) (n t c : ℕ) (f : Found) → f ≡ column_in t (take (n - 0) tags) → f ≡ At c
+pub column-few : (tags : List ℕ) (n t c : ℕ) (ts : List ℕ) → ts ≡ take n tags → (f : Found) → f ≡ column_in t ts → f ≡ At c
     → n ≤ most_columns → c < most_columns
-column-few tags n t c f q e h =
-    let l = column-below t (take (n - 0) tags) c (sym q ∙ e) in
-    let k = tags-few tags n h in
+column-few tags n t c ts te f q e h =
+    let l = column-below t ts c (sym q ∙ e) in
+    let k = tags-few tags n ts te h in
     omega arith
 
 -- ---- between the edges stands what the row has
@@ -305,14 +302,14 @@ module _ (b : List ℕ) (o : Octets b) (e : judge b ≡ clear) (w : Which) (h : 
 
 -- ---- why
 
-module _ (b : List ℕ) (w : Which) (t : ℕ) (j : Judgement) (e : j ≡ judged_of b) where
-  pub why-refused : (r : Refusal) → j.judged ≡ judged.Refused r → reason.Refused r ≡ why_of b w t
+module _ (b : List ℕ) (w : Which) (t : ℕ) (u : Answer Judgement) (e : u ≡ judged_of b) where
+  pub why-refused : (r : Refusal) → u ≡ Err r → Err r ≡ why_of b w t
   unfolding why_of why_at
-  why-refused r q = rw (refused-by b j e r q)
+  why-refused r q = rw (refused-by b u e r q)
 
-  module _ (l c h f : ℕ) (q : j.judged ≡ judged.Good l c h f) where
-    good : GoodIs b j c h f
-    good = good-is b j l c h f e q
+  module _ (j : Judgement) (q : u ≡ Ok j) where
+    good : GoodIs b j
+    good = good-is b u j e q
 
     tables-clear : tables_at (drop 12 b) ≡ clear
     unfolding judge body_at
@@ -325,22 +322,10 @@ module _ (b : List ℕ) (w : Which) (t : ℕ) (j : Judgement) (e : j ≡ judged_
     pub header-few : j.header.count ≤ most_columns
     header-few = rw good.heads (both-fit b tables-clear).0.few
 
-    pub header-tags : j.header.count ≤ length j.header.tags
-    header-tags = rw good.heads (reach-tags (heads_in (drop 12 b)))
-
-    pub header-forms : j.header.count ≤ length j.header.forms
-    header-forms = rw good.heads (reach-forms (heads_in (drop 12 b)))
-
     pub address-few : j.address.count ≤ most_columns
     address-few = rw good.cols (both-fit b tables-clear).1.few
 
-    pub address-tags : j.address.count ≤ length j.address.tags
-    address-tags = rw good.cols (reach-tags (cols_in (drop 12 b)))
-
-    pub address-forms : j.address.count ≤ length j.address.forms
-    address-forms = rw good.cols (reach-forms (cols_in (drop 12 b)))
-
-    pub header-place : h < 2 ^ 32
+    pub header-place : j.head < 2 ^ 32
     header-place = let k = good-keeps b good.clears in let p = good.header in omega (arith, k.0, k.2)
 
     heads-long : length (heads_in (drop 12 b)) ≡ head_count (drop 12 b)
@@ -350,24 +335,24 @@ module _ (b : List ℕ) (w : Which) (t : ℕ) (j : Judgement) (e : j ≡ judged_
     unfolding columns_in
     address-count = rw good.cols (table-long _)
 
-    pub rows_in_lem : 8 * j.address.count ≤ h
+    pub rows_in_lem : 8 * j.address.count ≤ j.head
     rows_in_lem = let p = good.header in let n = address-count in omega arith
 
     pub rows-mul : Fits w64 (8 * j.address.count)
     rows-mul = record { fits = let k = address-few in omega arith }
 
-    rows_are : h - 8 * j.address.count ≡ 24 + 8 * length (book_in b).heads
+    rows_are : j.head - 8 * j.address.count ≡ 24 + 8 * length (book_in b).heads
     rows_are =
         let p = good.header in
         let n = address-count in
         let m = heads-long in
         rw (heads-are b) (omega arith)
 
-    pub rows-place : h - 8 * j.address.count < 2 ^ 32
+    pub rows-place : j.head - 8 * j.address.count < 2 ^ 32
     rows-place = let p = header-place in omega arith
 
-    pub why-header : ((i : ℕ) → Fits w8 (get_or b i 0)) → (r : Reason) → w ≡ which.Header
-        → r ≡ columns_why b j.header h 20 t → r ≡ why_of b w t
+    pub why-header : ((i : ℕ) → Fits w8 (get_or b i 0)) → (r : Reply) → w ≡ which.Header
+        → r ≡ columns_why b j.header j.head 20 t → r ≡ why_of b w t
     why-header k r z x =
         let o : Octets b = octets-from b k in
         let cs : List Column = heads_in (drop 12 b) in
@@ -377,17 +362,17 @@ module _ (b : List ℕ) (w : Which) (t : ℕ) (j : Judgement) (e : j ≡ judged_
         (rw (← heads-are b) at y ∙ answer-same b o good.clears which.Header tt t)
 
     module _ (k : ℕ) (z : w ≡ which.Number k) where
-      pub why-past : c ≤ k → reason.Refused (record { number = out_of_turn; place = 0 }) ≡ why_of b w t
+      pub why-past : j.count ≤ k → Err (record { number = out_of_turn; place = 0 }) ≡ why_of b w t
       unfolding why_of why_at
       why-past g = let n = good.count in rw (z, good.clears, le-ltb k (count_in b) (omega arith))
 
-      module _ (g : k < c) (at : ℕ) (ae : at ≡ walk_behind k f b) where
+      module _ (g : k < j.count) (at : ℕ) (ae : at ≡ walk_behind k j.first b) where
         place_is : at ≡ place_in b k
         place_is =
             let m = good-keeps b good.clears in
             let n = good.count in
             let p = good.first in
-            ae ∙ walk-behind k f b (omega (arith, m.0, m.2)) (omega (arith, m.1)) ∙ walk-place b k f good.first
+            ae ∙ walk-behind k j.first b (omega (arith, m.0, m.2)) (omega (arith, m.1)) ∙ walk-place b k j.first good.first
 
         pub record-place : at < 2 ^ 32
         record-place =
@@ -396,8 +381,8 @@ module _ (b : List ℕ) (w : Which) (t : ℕ) (j : Judgement) (e : j ≡ judged_
             let p = place_is in
             omega (arith, m.0, (record-good b good.clears k (omega arith)).0)
 
-        pub why-number : ((i : ℕ) → Fits w8 (get_or b i 0)) → (r : Reason)
-            → r ≡ columns_why b j.address at (h - 8 * j.address.count) t → r ≡ why_of b w t
+        pub why-number : ((i : ℕ) → Fits w8 (get_or b i 0)) → (r : Reply)
+            → r ≡ columns_why b j.address at (j.head - 8 * j.address.count) t → r ≡ why_of b w t
         why-number m r x =
             let o : Octets b = octets-from b m in
             let cs : List Column = cols_in (drop 12 b) in
@@ -410,11 +395,7 @@ module _ (b : List ℕ) (w : Which) (t : ℕ) (j : Judgement) (e : j ≡ judged_
 
 pub ruleset asks = (
   header-few,
-  header-tags,
-  header-forms,
   address-few,
-  address-tags,
-  address-forms,
   header-place,
   rows-place,
   record-place,

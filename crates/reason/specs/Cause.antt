@@ -1,19 +1,19 @@
 -- The reply is the true reason: of an accepted book and a record that is there, each reply is given exactly when its
 -- cause holds in the table, and of the four causes and "present" one holds, and only one.
-use Rattle.std.specs.Prelude.{ℕ, ◌+◌, ◌*◌, ◌%◌, ◌<◌, ◌≡◌, Bool, false, not, List, [], ◌∷◌, length, get_or}
+use Rattle.std.specs.Prelude.{Ok, Err, ℕ, ◌+◌, ◌*◌, ◌%◌, ◌<◌, ◌≡◌, Bool, false, not, List, length, get_or}
 use Rattle.std.proofs.Common.{arith, sym, ◌∙◌}
 use Rattle.std.proofs.Math.Path.{refl, ap}
 use Rattle.std.proofs.Math.Bool.{true}
 use Rattle.std.proofs.Math.Option.{Option, none, some}
 use Rattle.octets.specs.Octets.{Octets}
 use Rattle.answers.specs.Numbers.{breaks_form}
-use Rattle.answers.specs.declared.Verdict.TheVariants.{Clear as clear}
+use Rattle.answers.specs.Verdict.{clear}
 use Rattle.answers.specs.Verdict.{need}
 use Rattle.value.specs.Types.{many, number, form_of, form_in, number_of, form_at}
 use Rattle.table.specs.Columns.{tags-long}
 use Rattle.table.specs.Repeat.{memb}
-use Rattle.table.specs.declared.Found.{Found}
-use Rattle.table.specs.declared.Found.TheVariants.{At, Nothing}
+use Rattle.table.specs.Found.{Found}
+use Rattle.table.specs.Found.{At, Nothing}
 use Rattle.entry.specs.Present.{Row, there}
 use Rattle.entry.specs.Record.{unlike}
 use Rattle.book.specs.Book.{Book, Sound, judge}
@@ -25,8 +25,7 @@ use Rattle.lookup.specs.Named.{There, columns_for, tags_under, row_for, value_in
 use Rattle.lookup.specs.Named.{value-formed, has_named}
 use Rattle.lookup.specs.Tagged.{Under, value-under, under-value}
 use Rattle.lookup.specs.declared.Which.{Which}
-use Rattle.lookup.specs.declared.Which.TheVariants as which
-use Rattle.reason.specs.declared.Reason.{Reason}
+use Rattle.reason.specs.Reply.{Reply}
 use Rattle.reason.specs.declared.Reason.TheVariants as reason
 use Rattle.reason.specs.Why.{upper, uppers_of, rows_place, other_by, other_type, truncated}
 use Rattle.reason.specs.Why.{listed_in, is_listed, presence_place, absent_at, reply_by, reply_in, reason_by}
@@ -73,19 +72,19 @@ pub record IsPresent (b : Book) (w : Which) (t : ℕ) : Type 0 where
   pub value : List ℕ
   pub under : Under b w t value
 
-abbrev pub present : Reason
-present = reason.Refused (record { number = breaks_form; place = 0 })
+abbrev pub present : Reply
+present = Err (record { number = breaks_form; place = 0 })
 
 -- what each reply says of the record at `at`
-abbrev pub Cause : Book → Which → ℕ → ℕ → Reason → Type 0
-Cause b w at t (reason.OtherType u p) = IsOther b w t u p
-Cause b w at t reason.NoColumn = (c : ℕ) → Half b w t c → ⊥
-Cause b w at t (reason.Listed p) = IsAbsent b w at t p × IsListed b w t
-Cause b w at t (reason.NotListed p) = IsAbsent b w at t p × (IsListed b w t → ⊥)
-Cause b w at t (reason.Refused r) = IsPresent b w t × (present ≡ reason.Refused r)
+abbrev pub Cause : Book → Which → ℕ → ℕ → Reply → Type 0
+Cause b w at t (Ok (reason.OtherType u p)) = IsOther b w t u p
+Cause b w at t (Ok reason.NoColumn) = (c : ℕ) → Half b w t c → ⊥
+Cause b w at t (Ok (reason.Listed p)) = IsAbsent b w at t p × IsListed b w t
+Cause b w at t (Ok (reason.NotListed p)) = IsAbsent b w at t p × (IsListed b w t → ⊥)
+Cause b w at t (Err r) = IsPresent b w t × (present ≡ Err r)
 
 -- the answer of a record that is there
-unfoldable pub answer_in : Book → Which → ℕ → ℕ → Reason
+unfoldable pub answer_in : Book → Which → ℕ → ℕ → Reply
 answer_in b w at t = reason_by (need (not (there (value_for b w t))) breaks_form 0) (reply_in b w at t)
 
 truncated-form : form_of (truncated % 65536) ≡ many number
@@ -230,15 +229,15 @@ module _ (b : Book) (s : Sound b) (w : Which) (h : There b w) (at t : ℕ) where
 
   -- ---- and only where its cause holds
 
-  pub answer-only : (r : Reason) → Cause b w at t r → answer_in b w at t ≡ r
+  pub answer-only : (r : Reply) → Cause b w at t r → answer_in b w at t ≡ r
   unfolding answer_in value_for reply_in other_type
-  answer-only (reason.OtherType u p) x =
+  answer-only (Ok (reason.OtherType u p)) x =
       rw (no_whole x.without, half-only x.column x.like x.first, x.tag, x.place)
-  answer-only reason.NoColumn x =
+  answer-only (Ok reason.NoColumn) x =
       rw (no_whole (λ c y. x c (record { there = y.there; half = ap upper y.tag })), half-none x)
-  answer-only (reason.Listed p) (x, y) = rw (only t x.column x.whole, x.absent, listed-is y, x.place)
-  answer-only (reason.NotListed p) (x, y) = rw (only t x.column x.whole, x.absent, unlisted y, x.place)
-  answer-only (reason.Refused r) (x, y) =
+  answer-only (Ok (reason.Listed p)) (x, y) = rw (only t x.column x.whole, x.absent, listed-is y, x.place)
+  answer-only (Ok (reason.NotListed p)) (x, y) = rw (only t x.column x.whole, x.absent, unlisted y, x.place)
+  answer-only (Err r) (x, y) =
       let u = x.under in
       rw (only t u.column (record { there = u.there; tag = u.tag }), u.value) y
 
@@ -250,19 +249,19 @@ module _ (xs : List ℕ) (o : Octets xs) (e : judge xs ≡ clear) (w : Which) (h
   why-is = rw (e, has_named xs (book_in xs) (sym (rows-count xs)) w h)
 
   -- the reply's cause holds
-  pub reason-true : (r : Reason) → why_of xs w t ≡ r → Cause (book_in xs) w (start_for xs w) t r
+  pub reason-true : (r : Reply) → why_of xs w t ≡ r → Cause (book_in xs) w (start_for xs w) t r
   reason-true r q =
       rw (sym why-is ∙ q) at (answer-true (book_in xs) (book-reads xs o e).0 w h (start_for xs w) t)
 
   -- and a reply is given where its cause holds
-  pub reason-only : (r : Reason) → Cause (book_in xs) w (start_for xs w) t r → why_of xs w t ≡ r
+  pub reason-only : (r : Reply) → Cause (book_in xs) w (start_for xs w) t r → why_of xs w t ≡ r
   reason-only r x = why-is ∙ answer-only (book_in xs) (book-reads xs o e).0 w h (start_for xs w) t r x
 
 -- one cause holds, and no other
 pub record OneCause (b : Book) (w : Which) (at t : ℕ) : Type 0 where
-  pub reply : Reason
+  pub reply : Reply
   pub holds : Cause b w at t reply
-  pub only : (r : Reason) → Cause b w at t r → reply ≡ r
+  pub only : (r : Reply) → Cause b w at t r → reply ≡ r
 
 pub one-cause : (xs : List ℕ) → Octets xs → judge xs ≡ clear → (w : Which) → There (book_in xs) w → (t : ℕ)
     → OneCause (book_in xs) w (start_for xs w) t

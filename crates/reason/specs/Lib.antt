@@ -1,3 +1,4 @@
+pub mod Reply
 pub mod Why
 pub mod Halves
 pub mod Numbers

@@ -1,10 +1,10 @@
 -- A list of numbers as it is written (2.9.6.6) is read as those numbers, and every value of its form is such a list.
-use Rattle.std.specs.Prelude.{ℕ, zero, suc, ◌^◌, ◌≤◌, ◌<◌, ◌≡◌, refl, Bool, true, false, cond, List, [], ◌∷◌, ◌++◌, eqb, length, get_or}
+use Rattle.std.specs.Prelude.{ℕ, zero, suc, ◌^◌, ◌≤◌, ◌<◌, ◌≡◌, refl, Bool, true, false, cond, List, [], ◌∷◌, eqb, length, get_or}
 use Rattle.std.proofs.Common.{arith, sym, ap, ◌∙◌, eqb-true, eq-eqb}
 use Rattle.std.proofs.Math.Seq.{drop-append_seam}
 use Rattle.whole.specs.Number.{encode_number}
 use Rattle.whole.specs.Laws.{number-back}
-use Rattle.value.specs.Types.{Kind, number, truth, narrow, text, binary, kind_number, Form, many}
+use Rattle.value.specs.Types.{Kind, number, truth, narrow, text, binary, kind_number, many}
 use Rattle.value.specs.Encode.{Item, a_number, a_truth, a_narrow, a_text, a_binary, Valids, encode_items}
 use Rattle.value.specs.Encode.{encode_list, count}
 use Rattle.value.specs.Form.{IsValue}

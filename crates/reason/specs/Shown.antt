@@ -2,7 +2,7 @@
 -- the place of an absent value stands the octet in which the tag's bit is 0.
 use Prim.Native.Nat.{ℕ, zero, suc, ◌+◌, ◌-◌, ◌*◌, ◌/◌, ◌%◌, ◌<◌}
 use native.Mathlib.Omega.{arith}
-use Rattle.std.specs.Prelude.{◌≡◌, List, [], ◌∷◌, ◌++◌, length, get_or, take, drop}
+use Rattle.std.specs.Prelude.{Ok, ◌≡◌, List, ◌++◌, length, get_or, take, drop}
 use Rattle.std.proofs.Math.Path.{refl, ap}
 use Rattle.std.proofs.Common.{sym, ◌∙◌, length-append, length-drop, drop-drop, get_or-take, get_or-drop}
 use Rattle.std.proofs.Math.Bool.{false}
@@ -10,7 +10,7 @@ use Rattle.std.proofs.Math.Option.{none}
 use borrow.Author.Tests.{eqb-false}
 use Rattle.octets.specs.Octets.{octet_at, Octets}
 use Rattle.octets.specs.Word.{word_of}
-use Rattle.answers.specs.declared.Verdict.TheVariants.{Clear as clear}
+use Rattle.answers.specs.Verdict.{clear}
 use Rattle.presence.specs.Presence.{room, bit_of, bit_at, is_set, bit-lt}
 use Rattle.table.specs.Table.{columns_of, table_of, behind}
 use Rattle.table.specs.Columns.{tags_of, columns-long}
@@ -23,7 +23,6 @@ use Rattle.lookup.specs.Named.{There, columns_for, tags_under, slots_under, slot
 use Rattle.lookup.specs.Read.{behind_for, record-stands}
 use Rattle.lookup.specs.declared.Which.{Which}
 use Rattle.lookup.specs.declared.Which.TheVariants as which
-use Rattle.reason.specs.declared.Reason.{Reason}
 use Rattle.reason.specs.declared.Reason.TheVariants as reason
 use Rattle.reason.specs.Why.{rows_place, presence_place, why_of}
 use Rattle.reason.specs.Cause.{Whole, IsAbsent, reason-true}
@@ -123,9 +122,9 @@ pub record Shown (xs : List ℕ) (b : Book) (w : Which) (t p : ℕ) : Type 0 whe
 
 module _ (xs : List ℕ) (o : Octets xs) (e : judge xs ≡ clear) (w : Which) (h : There (book_in xs) w) (t : ℕ) where
   -- the tag that is named stands in the row at the place that is shown
-  pub shown-row : (u p : ℕ) → why_of xs w t ≡ reason.OtherType u p → word_of 4 (drop p xs) ≡ u
+  pub shown-row : (u p : ℕ) → why_of xs w t ≡ Ok (reason.OtherType u p) → word_of 4 (drop p xs) ≡ u
   shown-row u p q =
-      let x = reason-true xs o e w h t (reason.OtherType u p) q in
+      let x = reason-true xs o e w h t (Ok (reason.OtherType u p)) q in
       rw (x.place, x.tag) at (row-stands xs w x.column x.like.there)
 
   absent-shown : (p : ℕ) → IsAbsent (book_in xs) w (start_for xs w) t p → Shown xs (book_in xs) w t p
@@ -144,8 +143,8 @@ module _ (xs : List ℕ) (o : Octets xs) (e : judge xs ≡ clear) (w : Which) (h
       }
 
   -- the tag's bit is 0 in the octet at the place that is shown
-  pub shown-listed : (p : ℕ) → why_of xs w t ≡ reason.Listed p → Shown xs (book_in xs) w t p
-  shown-listed p q = absent-shown p (reason-true xs o e w h t (reason.Listed p) q).0
+  pub shown-listed : (p : ℕ) → why_of xs w t ≡ Ok (reason.Listed p) → Shown xs (book_in xs) w t p
+  shown-listed p q = absent-shown p (reason-true xs o e w h t (Ok (reason.Listed p)) q).0
 
-  pub shown-not-listed : (p : ℕ) → why_of xs w t ≡ reason.NotListed p → Shown xs (book_in xs) w t p
-  shown-not-listed p q = absent-shown p (reason-true xs o e w h t (reason.NotListed p) q).0
+  pub shown-not-listed : (p : ℕ) → why_of xs w t ≡ Ok (reason.NotListed p) → Shown xs (book_in xs) w t p
+  shown-not-listed p q = absent-shown p (reason-true xs o e w h t (Ok (reason.NotListed p)) q).0

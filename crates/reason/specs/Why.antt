@@ -1,17 +1,17 @@
 -- Why a record has no value under a tag (request 105, reading 26), said of the table that stands in a book: the columns
 -- of the named record's table, and its row. `why_at` has the refusals in the published order, `reply_in` the replies.
-use Rattle.std.specs.Prelude.{ℕ, zero, suc, ◌+◌, ◌*◌, ◌/◌, Bool, not, cond, List, [], ◌∷◌, length, get_or, drop}
+use Rattle.std.specs.Prelude.{Err, Ok, ℕ, zero, suc, ◌+◌, ◌*◌, ◌/◌, Bool, not, cond, List, [], ◌∷◌, length, get_or, drop}
 use Rattle.std.proofs.Math.Option.{Option, none, some}
 use Rattle.answers.specs.Numbers.{out_of_turn, breaks_form}
-use Rattle.answers.specs.declared.Verdict.{Verdict}
-use Rattle.answers.specs.declared.Verdict.TheVariants.{Clear as clear, Refused}
+use Rattle.answers.specs.Verdict.{Verdict}
+use Rattle.answers.specs.Verdict.{Refused}
 use Rattle.answers.specs.Verdict.{◌then◌, need}
-use Rattle.whole.specs.declared.Number.{Number}
-use Rattle.whole.specs.declared.Number.TheVariants.{Is, Broken}
+use Rattle.whole.specs.Number.{Number}
+use Rattle.whole.specs.Number.{Some, Broken}
 use Rattle.whole.specs.Number.{number_of}
 use Rattle.table.specs.Repeat.{memb}
-use Rattle.table.specs.declared.Found.{Found}
-use Rattle.table.specs.declared.Found.TheVariants.{At, Nothing}
+use Rattle.table.specs.Found.{Found}
+use Rattle.table.specs.Found.{At, Nothing}
 use Rattle.entry.specs.Present.{there}
 use Rattle.book.specs.Book.{Book, judge}
 use Rattle.book.specs.Read.{book_in}
@@ -19,7 +19,7 @@ use Rattle.lookup.specs.Look.{column_in}
 use Rattle.lookup.specs.Named.{tags_under, value_for, has_record, start_for}
 use Rattle.lookup.specs.declared.Which.{Which}
 use Rattle.lookup.specs.declared.Which.TheVariants as which
-use Rattle.reason.specs.declared.Reason.{Reason}
+use Rattle.reason.specs.Reply.{Reply}
 use Rattle.reason.specs.declared.Reason.TheVariants as reason
 
 -- ---- the upper half of a tag: the property; the lower half is its type (2.9.4)
@@ -40,11 +40,11 @@ rows_place b which.Header = 20
 rows_place b (which.Number k) = 24 + 8 * length b.heads
 
 -- the first such column, of these tags, whose rows stand from `rows` on
-abbrev pub other_by : Found → List ℕ → ℕ → Reason
-other_by Nothing tags rows = reason.NoColumn
-other_by (At i) tags rows = reason.OtherType (get_or tags i 0) (rows + 8 * i)
+abbrev pub other_by : Found → List ℕ → ℕ → Reply
+other_by Nothing tags rows = Ok reason.NoColumn
+other_by (At i) tags rows = Ok (reason.OtherType (get_or tags i 0) (rows + 8 * i))
 
-unfoldable pub other_type : List ℕ → ℕ → ℕ → Reason
+unfoldable pub other_type : List ℕ → ℕ → ℕ → Reply
 other_type tags rows t = other_by (column_in (upper t) (uppers_of tags)) tags rows
 
 -- ---- the truncated properties (2.9.2.2.1): a list of numbers (2.9.6.6), which are whole tags
@@ -53,7 +53,7 @@ abbrev pub truncated : ℕ
 truncated = 0x68051003
 
 abbrev pub read : Number → (ℕ → ℕ → List ℕ) → List ℕ
-read (Is n w) f = f n w
+read (Some (n, w)) f = f n w
 read Broken f = []
 
 -- n numbers, one behind the other
@@ -79,15 +79,15 @@ is_listed b w t = memb t (listed_in (value_for b w truncated))
 abbrev pub presence_place : ℕ → ℕ → ℕ
 presence_place at c = at + 4 + c / 8
 
-abbrev pub absent_at : Bool → ℕ → Reason
-absent_at listed place = cond listed (reason.Listed place) (reason.NotListed place)
+abbrev pub absent_at : Bool → ℕ → Reply
+absent_at listed place = cond listed (Ok (reason.Listed place)) (Ok (reason.NotListed place))
 
-abbrev pub reply_by : Found → Reason → (ℕ → Reason) → Reason
+abbrev pub reply_by : Found → Reply → (ℕ → Reply) → Reply
 reply_by Nothing r f = r
 reply_by (At c) r f = f c
 
 -- of a record at `at` that has no value under the tag
-unfoldable pub reply_in : Book → Which → ℕ → ℕ → Reason
+unfoldable pub reply_in : Book → Which → ℕ → ℕ → Reply
 reply_in b w at t =
     reply_by (column_in t (tags_under b w)) (other_type (tags_under b w) (rows_place b w) t)
     (λ c. absent_at (is_listed b w t) (presence_place at c))
@@ -99,9 +99,9 @@ why_at xs w t =
     then need (has_record xs w) out_of_turn 0
     then need (not (there (value_for (book_in xs) w t))) breaks_form 0
 
-abbrev pub reason_by : Verdict → Reason → Reason
-reason_by clear r = r
-reason_by (Refused s) r = reason.Refused s
+abbrev pub reason_by : Verdict → Reply → Reply
+reason_by (Ok _) r = r
+reason_by (Refused s) r = Err s
 
-unfoldable pub why_of : List ℕ → Which → ℕ → Reason
+unfoldable pub why_of : List ℕ → Which → ℕ → Reply
 why_of xs w t = reason_by (why_at xs w t) (reply_in (book_in xs) w (start_for xs w) t)

@@ -8,12 +8,13 @@ use mathlib.Core.List.{List, [], ◌∷◌, ◌++◌, append_assoc}
 use Rattle.std.proofs.Math.ListN.{length, length-append}
 use Rattle.std.proofs.Math.Seq.{take-append_seam}
 use Rattle.octets.specs.Cases.{taken}
-use Rattle.answers.specs.declared.Walk.{Walk}
-use Rattle.answers.specs.declared.Walk.TheVariants.{Ends as WalkEnds, Broken as WalkBroken}
+use Rattle.answers.specs.Walk.{Walk}
+use Rattle.answers.specs.Walk.{Ends as WalkEnds, Broken as WalkBroken}
 use Rattle.answers.specs.Walk.{no_end}
 use Rattle.entry.specs.Record.{unlike}
 use Rattle.sheet.specs.Field.{lf, end_of}
 use Rattle.sheet.specs.Back.{Spells, content-back}
+use Rattle.scanning.specs.declared.Fill.TheVariants.{Nothing}
 use Rattle.scanning.specs.declared.Stage.TheVariants.{Outside}
 use Rattle.scanning.specs.Steps.{holds, field_from}
 use Rattle.scanning.specs.Scan.{held, end_at, at_start, scan_from, scan_in}
@@ -25,7 +26,7 @@ use Rattle.scanning.specs.Runs.{runs, fails, stops, due-is, code_at, none_left, 
 module _ (good : ℕ → List ℕ → Bool) (codes : List ℕ) where
   -- j fields of a line are done
   abbrev from : ℕ → ℕ → List ℕ → Walk
-  from j i xs = scan_from (held good) codes j (Outside 0) [] i xs
+  from j i xs = scan_from (held good) codes j (Outside Nothing) [] i xs
 
   -- ---- what is spelt so is taken
 
@@ -34,14 +35,14 @@ module _ (good : ℕ → List ℕ → Bool) (codes : List ℕ) where
   all_read i = ap WalkEnds (sym (add-zero i))
 
   field-taken : (j c : ℕ) (cs : List ℕ) (i : ℕ) (t f rest : List ℕ) → drop j codes ≡ c ∷ cs → Spells t f
-      → holds c 0 t ≡ true → good c t ≡ true
+      → holds c Nothing t ≡ true → good c t ≡ true
       → from j i (f ++ (end_of cs ∷ rest)) ≡ from (j + 1) (i + length f + 1) rest
   field-taken j c cs i t f rest e s h g =
       let k = code_at codes j c cs e in
       let xs : List ℕ = f ++ (end_of cs ∷ rest) in
-      let b : field_from (get_or codes j 0) (end_at codes j) (Outside 0) i xs ≡ WalkEnds (i + length f) =
+      let b : field_from (get_or codes j 0) (end_at codes j) (Outside Nothing) i xs ≡ WalkEnds (i + length f) =
       rw (k.0, k.1) (field_back c (end_of cs) (end_is cs) i t f rest s h) in
-      let r = runs (held good) codes xs j (Outside 0) [] i (i + length f) k.2 b in
+      let r = runs (held good) codes xs j (Outside Nothing) [] i (i + length f) k.2 b in
       let w : r.wide ≡ length f = omega (arith, r.ends) in
       let m : take (length f) xs ≡ f = take-append_seam f (end_of cs ∷ rest) in
       let d : drop (suc (length f)) xs ≡ rest = drop_past f (end_of cs) rest in
@@ -50,7 +51,7 @@ module _ (good : ℕ → List ℕ → Bool) (codes : List ℕ) where
   line_taken : (ts : List (List ℕ)) (cs : List ℕ) (j i : ℕ) (line rest : List ℕ) → drop j codes ≡ cs
       → IsLine cs ts line → GoodLine good cs ts → from j i (line ++ rest) ≡ from 0 (i + length line) rest
   line_taken [] [] j i line rest e l g =
-      rw l (due-is (held good) codes j (Outside 0) [] i lf (none_left codes j e) rest)
+      rw l (due-is (held good) codes j (Outside Nothing) [] i lf (none_left codes j e) rest)
   line_taken (t ∷ ts) [] j i line rest e l g = absurd l
   line_taken [] (c ∷ cs) j i line rest e l g = absurd l
   line_taken (t ∷ ts) (c ∷ cs) j i line rest e l g =
@@ -89,11 +90,11 @@ module _ (good : ℕ → List ℕ → Bool) (codes : List ℕ) where
 
   -- a field, and the line behind it
   with-field : (j c : ℕ) (cs : List ℕ) (i : ℕ) (xs : List ℕ) (w : ℕ) → drop j codes ≡ c ∷ cs → (v : ℕ)
-      → field_from (get_or codes j 0) (end_at codes j) (Outside 0) i xs ≡ WalkEnds v → from j i xs ≡ WalkEnds w
+      → field_from (get_or codes j 0) (end_at codes j) (Outside Nothing) i xs ≡ WalkEnds v → from j i xs ≡ WalkEnds w
       → ((k : ℕ) (ys : List ℕ) → from (j + 1) k ys ≡ WalkEnds w → LineFound cs k ys w) → LineFound (c ∷ cs) i xs w
   with-field j c cs i xs w e v z q ih =
       let k = code_at codes j c cs e in
-      let r = runs (held good) codes xs j (Outside 0) [] i v k.2 z in
+      let r = runs (held good) codes xs j (Outside Nothing) [] i v k.2 z in
       let s = field-sound c (end_of cs) xs i v (rw (k.0, k.1) at z) in
       let n : r.wide ≡ length s.field = omega (arith, r.ends, s.ends) in
       let a : take (length s.field) xs ≡ s.field =
@@ -134,9 +135,9 @@ module _ (good : ℕ → List ℕ → Bool) (codes : List ℕ) where
     where
       go : (b : Bool) → at_start j [] ≡ b → LineFound [] i [] w
       go true z = absurd (let l = n z in omega arith)
-      go false z = no_end (sym (stops (held good) codes j (Outside 0) [] i z) ∙ q)
+      go false z = no_end (sym (stops (held good) codes j (Outside Nothing) [] i z) ∙ q)
   last_found j i (x ∷ xs) w h n q =
-      taken (eqb x lf) _ _ _ (sym (due-is (held good) codes j (Outside 0) [] i x h xs) ∙ q)
+      taken (eqb x lf) _ _ _ (sym (due-is (held good) codes j (Outside Nothing) [] i x h xs) ∙ q)
       (λ a b. record {
         holds = [];
         line = lf ∷ [];
@@ -152,14 +153,14 @@ module _ (good : ℕ → List ℕ → Bool) (codes : List ℕ) where
       → (at_start j [] ≡ true → 0 < length xs) → from j i xs ≡ WalkEnds w → LineFound cs i xs w
   line-found [] j i xs w e n q = last_found j i xs w (none_left codes j e) n q
   line-found (c ∷ cs) j i xs w e n q =
-      go (field_from (get_or codes j 0) (end_at codes j) (Outside 0) i xs) refl
+      go (field_from (get_or codes j 0) (end_at codes j) (Outside Nothing) i xs) refl
       (λ k ys z. line-found cs (j + 1) k ys w (code_at codes j c cs e).1 (λ y. absurd (behind-start j y)) z)
     where
-      go : (r : Walk) → field_from (get_or codes j 0) (end_at codes j) (Outside 0) i xs ≡ r
+      go : (r : Walk) → field_from (get_or codes j 0) (end_at codes j) (Outside Nothing) i xs ≡ r
           → ((k : ℕ) (ys : List ℕ) → from (j + 1) k ys ≡ WalkEnds w → LineFound cs k ys w)
           → LineFound (c ∷ cs) i xs w
       go (WalkBroken p) z ih =
-          no_end (sym (fails (held good) codes xs j (Outside 0) [] i p (code_at codes j c cs e).2 n z) ∙ q)
+          no_end (sym (fails (held good) codes xs j (Outside Nothing) [] i p (code_at codes j c cs e).2 n z) ∙ q)
       go (WalkEnds v) z ih = with-field j c cs i xs w e v z q ih
 
   -- what the text holds, which is good, and that it was taken to its end

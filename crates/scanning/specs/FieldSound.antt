@@ -8,38 +8,42 @@ use mathlib.Core.List.{List, [], ◌∷◌, ◌++◌}
 use Rattle.std.proofs.Math.Dec.{eqb}
 use Rattle.std.proofs.Math.Seq.{append_snoc}
 use Rattle.std.proofs.lemmas.Bool.{eqb-false}
-use Rattle.answers.specs.declared.Walk.{Walk}
-use Rattle.answers.specs.declared.Walk.TheVariants.{Ends as WalkEnds}
+use Rattle.answers.specs.Walk.{Walk}
+use Rattle.answers.specs.Walk.{Ends as WalkEnds}
 use Rattle.answers.specs.Walk.{no_end}
+use Rattle.entry.specs.Record.{unlike}
 use Rattle.sheet.specs.Field.{quote, numbers, truths, is_mark, marked, doubled, quoted}
 use Rattle.sheet.specs.Marks.{doubled-quote, doubled-other}
 use Rattle.sheet.specs.Back.{Spells, plainly, in_quotes}
 use Rattle.sheet.specs.Values.{is_string}
+use Rattle.scanning.specs.declared.Fill.{Fill}
+use Rattle.scanning.specs.declared.Fill.TheVariants.{Nothing, More, All}
 use Rattle.scanning.specs.declared.Stage.{Stage}
 use Rattle.scanning.specs.declared.Stage.TheVariants.{Outside, Inside, Behind}
 use Rattle.scanning.specs.declared.Step.TheVariants.{Goes, Ends, Broken}
-use Rattle.scanning.specs.Steps.{filled, takes, holds, step_of, moved, field_from, string-takes, string-filled}
+use Rattle.scanning.specs.Steps.{is_nothing, is_all, filled, takes, holds, step_of, moved, field_from}
+use Rattle.scanning.specs.Steps.{string-takes, string-filled}
 
 module _ (code e : ℕ) where
   -- ---- what a step says
 
-  module _ {X : Type 0} (fill x i : ℕ) (f : Stage → Walk) (v : ℕ) where
+  module _ {X : Type 0} (fill : Fill) (x i : ℕ) (f : Stage → Walk) (v : ℕ) where
     outside-step : moved (step_of code e (Outside fill) x) i f (WalkEnds i) ≡ WalkEnds v → (x ≡ e → i ≡ v → X)
-        → (x ≡ quote → fill ≡ 0 → f (Inside 0) ≡ WalkEnds v → X)
+        → (x ≡ quote → is_nothing fill ≡ true → f (Inside Nothing) ≡ WalkEnds v → X)
         → (is_mark x ≡ false → takes code fill x ≡ true → f (Outside (filled code fill x)) ≡ WalkEnds v → X) → X
     unfolding step_of
     outside-step q ends opens goes =
-        go (eqb x e) refl (eqb x quote) refl (eqb fill 0) refl (is_mark x) refl (takes code fill x) refl q
+        go (eqb x e) refl (eqb x quote) refl (is_nothing fill) refl (is_mark x) refl (takes code fill x) refl q
       where
-        go : (a : Bool) → eqb x e ≡ a → (b : Bool) → eqb x quote ≡ b → (c : Bool) → eqb fill 0 ≡ c → (d : Bool)
+        go : (a : Bool) → eqb x e ≡ a → (b : Bool) → eqb x quote ≡ b → (c : Bool) → is_nothing fill ≡ c → (d : Bool)
             → is_mark x ≡ d → (g : Bool) → takes code fill x ≡ g
             → moved
             (cond a Ends
-            (cond b (cond c (Goes (Inside 0)) Broken)
+            (cond b (cond c (Goes (Inside Nothing)) Broken)
             (cond d Broken (cond g (Goes (Outside (filled code fill x))) Broken)))) i f (WalkEnds i)
             ≡ WalkEnds v → X
         go true p b r c s d t g u q = ends (eqb-true x e p) (let z : i ≡ v = cc in z)
-        go false p true r true s d t g u q = opens (eqb-true x quote r) (eqb-true fill 0 s) q
+        go false p true r true s d t g u q = opens (eqb-true x quote r) s q
         go false p true r false s d t g u q = no_end q
         go false p false r c s true t g u q = no_end q
         go false p false r c s false t true u q = goes t u q
@@ -59,12 +63,12 @@ module _ (code e : ℕ) where
         go false p false r q = no_end q
 
     behind-step : moved (step_of code e Behind x) i f (WalkEnds i) ≡ WalkEnds v → (x ≡ e → i ≡ v → X)
-        → (x ≡ quote → is_string code ≡ true → f (Inside 1) ≡ WalkEnds v → X) → X
+        → (x ≡ quote → is_string code ≡ true → f (Inside More) ≡ WalkEnds v → X) → X
     unfolding step_of
     behind-step q ends goes = go (eqb x e) refl (eqb x quote) refl (is_string code) refl q
       where
         go : (a : Bool) → eqb x e ≡ a → (b : Bool) → eqb x quote ≡ b → (c : Bool) → is_string code ≡ c
-            → moved (cond a Ends (cond b (cond c (Goes (Inside 1)) Broken) Broken)) i f (WalkEnds i) ≡ WalkEnds v → X
+            → moved (cond a Ends (cond b (cond c (Goes (Inside More)) Broken) Broken)) i f (WalkEnds i) ≡ WalkEnds v → X
         go true p b r c s q = ends (eqb-true x e p) (let z : i ≡ v = cc in z)
         go false p true r true s q = goes (eqb-true x quote r) s q
         go false p true r false s q = no_end q
@@ -72,19 +76,19 @@ module _ (code e : ℕ) where
 
   -- ---- inside quotes
 
-  record InQuotes (fill i : ℕ) (xs : List ℕ) (v : ℕ) : Type 0 where
+  record InQuotes (fill : Fill) (i : ℕ) (xs : List ℕ) (v : ℕ) : Type 0 where
     content : List ℕ
     held : holds code fill content ≡ true
     rest : List ℕ
     reads : xs ≡ doubled content ++ (quote ∷ e ∷ rest)
     ends : v ≡ i + length (doubled content) + 1
 
-  closed : (fill i : ℕ) (rest : List ℕ) (v : ℕ) → i + 1 ≡ v → InQuotes fill i (quote ∷ e ∷ rest) v
+  closed : (fill : Fill) (i : ℕ) (rest : List ℕ) (v : ℕ) → i + 1 ≡ v → InQuotes fill i (quote ∷ e ∷ rest) v
   unfolding holds doubled
   closed fill i rest v q = record { content = []; held = refl; rest = rest; reads = refl; ends = omega arith }
 
-  twice-more : (fill i : ℕ) (xs : List ℕ) (v : ℕ) → is_string code ≡ true → (fill ≡ 2 → ⊥) → InQuotes 1 (i + 1 + 1) xs v
-      → InQuotes fill i (quote ∷ quote ∷ xs) v
+  twice-more : (fill : Fill) (i : ℕ) (xs : List ℕ) (v : ℕ) → is_string code ≡ true → is_all fill ≡ false
+      → InQuotes More (i + 1 + 1) xs v → InQuotes fill i (quote ∷ quote ∷ xs) v
   unfolding holds
   twice-more fill i xs v h n r =
       let d = doubled-quote quote r.content refl in
@@ -97,7 +101,7 @@ module _ (code e : ℕ) where
         ends = r.ends ∙ rw d (omega arith);
       }
 
-  one_more_lem : (fill i x : ℕ) (xs : List ℕ) (v : ℕ) → (x ≡ quote → ⊥) → takes code fill x ≡ true
+  one_more_lem : (fill : Fill) (i x : ℕ) (xs : List ℕ) (v : ℕ) → (x ≡ quote → ⊥) → takes code fill x ≡ true
       → InQuotes (filled code fill x) (i + 1) xs v → InQuotes fill i (x ∷ xs) v
   unfolding holds
   one_more_lem fill i x xs v n t r =
@@ -110,7 +114,7 @@ module _ (code e : ℕ) where
         ends = r.ends ∙ rw d (omega arith);
       }
 
-  inside-sound : (xs : List ℕ) (fill i v : ℕ) → (is_string code ≡ true → fill ≡ 2 → ⊥)
+  inside-sound : (xs : List ℕ) (fill : Fill) (i v : ℕ) → (is_string code ≡ true → is_all fill ≡ false)
       → field_from code e (Inside fill) i xs ≡ WalkEnds v → InQuotes fill i xs v
   unfolding field_from
   inside-sound [] fill i v n q = no_end q
@@ -119,14 +123,14 @@ module _ (code e : ℕ) where
       inside-step fill x i _ v q
       (λ a b. behind-step fill y (i + 1) _ v b
       (λ c d. rw (a, c) (closed fill i ys v d))
-      (λ c d g. rw (a, c) (twice-more fill i ys v d (n d) (inside-sound ys 1 (i + 1 + 1) v (λ s z. omega arith) g))))
+      (λ c d g. rw (a, c) (twice-more fill i ys v d (n d) (inside-sound ys More (i + 1 + 1) v (λ s. refl) g))))
       (λ a b c. one_more_lem fill i x (y ∷ ys) v a b
       (inside-sound (y ∷ ys) (filled code fill x) (i + 1) v
-      (λ s z. let w = string-filled code fill x s in omega arith) c))
+      (λ s. ap is_all (string-filled code fill x s)) c))
 
   -- ---- outside
 
-  record Plain (fill i : ℕ) (xs : List ℕ) (v : ℕ) : Type 0 where
+  record Plain (fill : Fill) (i : ℕ) (xs : List ℕ) (v : ℕ) : Type 0 where
     content : List ℕ
     held : holds code fill content ≡ true
     plain : marked content ≡ false
@@ -134,7 +138,7 @@ module _ (code e : ℕ) where
     reads : xs ≡ content ++ (e ∷ rest)
     ends : v ≡ i + length content
 
-  plain-none : (fill i : ℕ) (rest : List ℕ) (v : ℕ) → i ≡ v → Plain fill i (e ∷ rest) v
+  plain-none : (fill : Fill) (i : ℕ) (rest : List ℕ) (v : ℕ) → i ≡ v → Plain fill i (e ∷ rest) v
   unfolding holds marked
   plain-none fill i rest v q = record {
     content = [];
@@ -145,7 +149,7 @@ module _ (code e : ℕ) where
     ends = omega arith;
   }
 
-  plain_more : (fill i x : ℕ) (xs : List ℕ) (v : ℕ) → is_mark x ≡ false → takes code fill x ≡ true
+  plain_more : (fill : Fill) (i x : ℕ) (xs : List ℕ) (v : ℕ) → is_mark x ≡ false → takes code fill x ≡ true
       → Plain (filled code fill x) (i + 1) xs v → Plain fill i (x ∷ xs) v
   unfolding holds marked
   plain_more fill i x xs v m t r =
@@ -158,26 +162,26 @@ module _ (code e : ℕ) where
         ends = r.ends ∙ omega arith;
       }
 
-  filled-some : (fill x : ℕ) → filled code fill x ≡ 0 → ⊥
+  filled-some : (fill : Fill) (x : ℕ) → is_nothing (filled code fill x) ≡ false
   unfolding filled
-  filled-some fill x = go (eqb code numbers) (eqb code truths) (eqb fill 0) (eqb x 48)
+  filled-some fill x = go (eqb code numbers) (eqb code truths) (is_nothing fill) (eqb x 48)
     where
-      go : (a b c d : Bool) → ◌≡◌ {A = ℕ} (cond a (cond c (cond d 2 1) 1) (cond b 2 1)) 0 → ⊥
-      go true b true true q = omega arith
-      go true b true false q = omega arith
-      go true b false d q = omega arith
-      go false true c d q = omega arith
-      go false false c d q = omega arith
+      go : (a b c d : Bool) → is_nothing (cond a (cond c (cond d All More) More) (cond b All More)) ≡ false
+      go true b true true = refl
+      go true b true false = refl
+      go true b false d = refl
+      go false true c d = refl
+      go false false c d = refl
 
   -- once something has been read
-  plain-sound : (xs : List ℕ) (fill i v : ℕ) → (fill ≡ 0 → ⊥) → field_from code e (Outside fill) i xs ≡ WalkEnds v
-      → Plain fill i xs v
+  plain-sound : (xs : List ℕ) (fill : Fill) (i v : ℕ) → is_nothing fill ≡ false
+      → field_from code e (Outside fill) i xs ≡ WalkEnds v → Plain fill i xs v
   unfolding field_from
   plain-sound [] fill i v n q = no_end q
   plain-sound (x ∷ xs) fill i v n q =
       outside-step fill x i _ v q
       (λ a b. rw a (plain-none fill i xs v b))
-      (λ a b c. absurd (n b))
+      (λ a b c. unlike (sym n ∙ b))
       (λ a b c. plain_more fill i x xs v a b (plain-sound xs (filled code fill x) (i + 1) v (filled-some fill x) c))
 
   -- ---- a field
@@ -186,12 +190,12 @@ module _ (code e : ℕ) where
     pub content : List ℕ
     pub field : List ℕ
     pub spelt : Spells content field
-    pub held : holds code 0 content ≡ true
+    pub held : holds code Nothing content ≡ true
     pub rest : List ℕ
     pub reads : xs ≡ field ++ (e ∷ rest)
     pub ends : v ≡ i + length field
 
-  is_plain : (i : ℕ) (xs : List ℕ) (v : ℕ) → Plain 0 i xs v → FieldIs i xs v
+  is_plain : (i : ℕ) (xs : List ℕ) (v : ℕ) → Plain Nothing i xs v → FieldIs i xs v
   is_plain i xs v r = record {
     content = r.content;
     field = r.content;
@@ -210,7 +214,7 @@ module _ (code e : ℕ) where
   unfolding quoted
   quoted-ends i t = rw (length-append (doubled t) (quote ∷ [])) (omega arith)
 
-  is-quoted : (i : ℕ) (xs : List ℕ) (v : ℕ) → InQuotes 0 (i + 1) xs v → FieldIs i (quote ∷ xs) v
+  is-quoted : (i : ℕ) (xs : List ℕ) (v : ℕ) → InQuotes Nothing (i + 1) xs v → FieldIs i (quote ∷ xs) v
   is-quoted i xs v r =
       record {
         content = r.content;
@@ -222,12 +226,12 @@ module _ (code e : ℕ) where
         ends = r.ends ∙ quoted-ends i r.content;
       }
 
-  pub field-sound : (xs : List ℕ) (i v : ℕ) → field_from code e (Outside 0) i xs ≡ WalkEnds v → FieldIs i xs v
+  pub field-sound : (xs : List ℕ) (i v : ℕ) → field_from code e (Outside Nothing) i xs ≡ WalkEnds v → FieldIs i xs v
   unfolding field_from
   field-sound [] i v q = no_end q
   field-sound (x ∷ xs) i v q =
-      outside-step 0 x i _ v q
-      (λ a b. is_plain i (x ∷ xs) v (rw a (plain-none 0 i xs v b)))
-      (λ a b c. rw a (is-quoted i xs v (inside-sound xs 0 (i + 1) v (λ s z. omega arith) c)))
+      outside-step Nothing x i _ v q
+      (λ a b. is_plain i (x ∷ xs) v (rw a (plain-none Nothing i xs v b)))
+      (λ a b c. rw a (is-quoted i xs v (inside-sound xs Nothing (i + 1) v (λ s. refl) c)))
       (λ a b c. is_plain i (x ∷ xs) v
-      (plain_more 0 i x xs v a b (plain-sound xs (filled code 0 x) (i + 1) v (filled-some 0 x) c)))
+      (plain_more Nothing i x xs v a b (plain-sound xs (filled code Nothing x) (i + 1) v (filled-some Nothing x) c)))

@@ -1,7 +1,6 @@
 -- The first line of a sheet (request 106): 1 to 16 tags of eight upper-case digits of base 16, in quotes or not; how it
 -- is scanned, and what it is. Assumes nothing.
-use Rattle.std.specs.Prelude.{ℕ, ◌+◌, ◌-◌, ◌*◌, ◌%◌, ◌^◌, ◌≤◌, ◌<◌, ◌≡◌, Bool, true, false, cond, List, [], ◌∷◌, ◌++◌, eqb, ltb, leb, length, replicate}
-use Rattle.answers.specs.declared.Walk.TheVariants.{Ends as WalkEnds, Broken as WalkBroken}
+use Rattle.std.specs.Prelude.{ℕ, ◌+◌, ◌-◌, ◌*◌, ◌%◌, ◌^◌, ◌≤◌, ◌<◌, ◌≡◌, Bool, true, false, cond, List, [], ◌∷◌, ◌++◌, eqb, ltb, leb, length, replicate, Result, Ok, Err}
 use Rattle.sheet.specs.Field.{quote, comma, cr, lf, line_of, tag_fields}
 use Rattle.sheet.specs.Back.{AllSpelt}
 use Rattle.scanning.specs.declared.Stand.{Stand}
@@ -90,11 +89,11 @@ head_step st a ts i x n e xs = rw e
 abbrev pub head_in : List ℕ → Headed
 head_in xs = head_from (InTag false 0) 0 [] 0 xs
 
-abbrev pub fault_at : ℕ → FirstLine
-fault_at p = record { tags = replicate most_tags 0; count = 0; walk = WalkBroken p }
+abbrev pub fault_at : ℕ → Result FirstLine ℕ
+fault_at p = Err p
 
 -- the tags with zeros behind the last
-unfoldable pub first_line_of : Headed → FirstLine
+unfoldable pub first_line_of : Headed → Result FirstLine ℕ
 first_line_of (tags_to ts w) =
-    record { tags = ts ++ replicate (most_tags - length ts) 0; count = length ts; walk = WalkEnds w }
+    Ok (record { tags = ts ++ replicate (most_tags - length ts) 0; count = length ts; end = w })
 first_line_of (fault p) = fault_at p

@@ -1,11 +1,10 @@
 -- The ways of the code that reads a first line, on plain values: the tags before are the front of its sixteen.
-use Rattle.std.specs.Prelude.{ℕ, zero, suc, ◌+◌, ◌-◌, ◌*◌, ◌%◌, ◌≤◌, ◌<◌, refl, Bool, true, false, List, [], ◌∷◌, ◌++◌, drop, get_or, set}
+use Rattle.std.specs.Prelude.{ℕ, zero, suc, ◌+◌, ◌-◌, ◌*◌, ◌%◌, ◌≤◌, ◌<◌, refl, Bool, true, false, List, [], ◌∷◌, ◌++◌, drop, get_or, set, Result, Ok}
 use Rattle.std.proofs.Common.{arith, sym, ◌∙◌, take-append-drop, drop_of_length-le, length-set, length-take-le}
 use Rattle.std.proofs.Math.Path.{◌≡◌, ap}
 use Rattle.std.proofs.Math.ListN.{length, take, replicate}
 use borrow.Author.Tests.{lt-ltb, le-ltb, le-leb, lt-leb, ne_eqb}
 use Rattle.octets.specs.Octets.{octet_at, drop-next}
-use Rattle.answers.specs.declared.Walk.TheVariants.{Ends as WalkEnds}
 use Rattle.scanning.specs.declared.Stand.{Stand}
 use Rattle.scanning.specs.declared.Stand.TheVariants.{InTag, Behind, LineEnd}
 use Rattle.scanning.specs.declared.Next.{Next}
@@ -172,12 +171,13 @@ module _ (text : List ℕ) (st : Stand) (a n : ℕ) (tags : List ℕ) (at : ℕ)
     small : NextKept r a n
     small = rw e (next-kept st a n (get_or text at 0) k.kept)
 
-    pub line-stop : r ≡ Stop → (v : FirstLine) → v ≡ fault_at at → v ≡ first_line_of (head_in text)
+    pub line-stop : r ≡ Stop → (v : Result FirstLine ℕ) → v ≡ fault_at at → v ≡ first_line_of (head_in text)
     unfolding first_line_of
     line-stop z v q = let y : head_in text ≡ fault at = step ∙ rw z in q ∙ ap first_line_of (sym y)
 
     pub line-done : r ≡ Done
-        → ◌≡◌ {A = FirstLine} (record { tags = tags; count = n; walk = WalkEnds (at + 1) }) (first_line_of (head_in text))
+        → ◌≡◌ {A = Result FirstLine ℕ} (Ok (record { tags = tags; count = n; end = at + 1 }))
+        (first_line_of (head_in text))
     unfolding first_line_of
     line-done z =
         let f = front_long st a n tags k in
@@ -186,9 +186,9 @@ module _ (text : List ℕ) (st : Stand) (a n : ℕ) (tags : List ℕ) (at : ℕ)
         same_line w (sym f) ∙ ap first_line_of (sym y)
       where
         same_line : tags ≡ take n tags ++ replicate (16 - length (take n tags)) 0 → n ≡ length (take n tags)
-            → ◌≡◌ {A = FirstLine} (record { tags = tags; count = n; walk = WalkEnds (at + 1) })
+            → ◌≡◌ {A = Result FirstLine ℕ} (Ok (record { tags = tags; count = n; end = at + 1 }))
             (first_line_of (tags_to (take n tags) (at + 1)))
-        same_line x y = λ i. record { tags = x i; count = y i; walk = WalkEnds (at + 1) }
+        same_line x y = λ i. Ok (record { tags = x i; count = y i; end = at + 1 })
 
     pub line-goes : (s : Stand) (b : ℕ) → r ≡ Goes s b
         → head_from s b (take n tags) (at + 1) (drop (at + 1) text) ≡ head_in text
@@ -220,7 +220,7 @@ module _ (text : List ℕ) (st : Stand) (a n : ℕ) (tags : List ℕ) (at : ℕ)
           kept = h.1;
         }
 
-  pub line-end : length text ≤ at → (v : FirstLine) → v ≡ fault_at at → v ≡ first_line_of (head_in text)
+  pub line-end : length text ≤ at → (v : Result FirstLine ℕ) → v ≡ fault_at at → v ≡ first_line_of (head_in text)
   unfolding first_line_of head_from
   line-end h v q = q ∙ ap first_line_of (rw (drop_of_length-le text {i = at} h) at inv)
 

@@ -1,6 +1,6 @@
 -- A first line that is taken is spelt in a permitted way, and its tags are what its digits say. Each octet is undone: a
 -- good tail behind it is a good tail with it. Assumes nothing.
-use Rattle.std.specs.Prelude.{ℕ, suc, ◌+◌, ◌*◌, ◌%◌, ◌^◌, ◌≤◌, ◌<◌, ◌≡◌, refl, Bool, cond, List, [], ◌∷◌, ◌++◌, eqb, ltb, length}
+use Rattle.std.specs.Prelude.{ℕ, suc, ◌+◌, ◌*◌, ◌^◌, ◌≤◌, ◌<◌, ◌≡◌, refl, Bool, cond, List, [], ◌∷◌, ◌++◌, eqb, ltb, length}
 use Rattle.std.proofs.Common.{zero-add, arith, sym, ap, subst, ◌∙◌, append_assoc, append-nil, length-append, ltb-true, ltb-false, eqb-true}
 use Rattle.std.proofs.Math.Bool.{true, false}
 use Rattle.entry.specs.Record.{unlike}

@@ -14,7 +14,6 @@ use Rattle.sheet.specs.Field.{quote, comma, cr, lf, is_mark, marked, doubled, qu
 use Rattle.sheet.specs.Field.{tag_field, tag_fields}
 use Rattle.sheet.specs.Marks.{mark-quote, digits-plain, doubled-other}
 use Rattle.sheet.specs.Back.{Spells, plainly, in_quotes, AllSpelt}
-use Rattle.scanning.specs.declared.Stand.{Stand}
 use Rattle.scanning.specs.declared.Stand.TheVariants.{InTag, Behind}
 use Rattle.scanning.specs.First.{most_tags, Words, IsFirst, digit_in, next_end, next_quote, next_tag, next_of}
 use Rattle.scanning.specs.First.{tags_to, head_from, head_in}

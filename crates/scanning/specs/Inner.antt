@@ -1,13 +1,13 @@
 -- What a field in quotes holds can be judged where it stands: quotes written twice make no number larger, since a
 -- number has none, and no UTF-8 wrong.
-use Rattle.std.specs.Prelude.{ℕ, ◌+◌, ◌-◌, ◌/◌, ◌%◌, ◌≤◌, ◌≡◌, refl, Bool, true, false, cond, List, [], ◌∷◌, ◌++◌, eqb, length, take, drop}
+use Rattle.std.specs.Prelude.{ℕ, ◌+◌, ◌-◌, ◌≤◌, ◌≡◌, refl, Bool, true, false, cond, List, [], ◌∷◌, ◌++◌, eqb, length, take, drop}
 use Rattle.std.proofs.Common.{arith, sym, ap, ap₂, ◌∙◌, append_assoc, append-nil, length-append, take_at, lt-ltb, le-ltb, eq-eqb, ne_eqb, eqb-true}
 use Rattle.std.proofs.Math.Decide.{ℕ_discrete}
 use Rattle.std.proofs.lemmas.Bool.{eqb-false}
 use Rattle.octets.specs.Cases.{split, taken}
 use Rattle.octets.specs.Octets.{octet_at, same-front, no-octets}
-use Rattle.answers.specs.declared.Walk.{Walk}
-use Rattle.answers.specs.declared.Walk.TheVariants.{Ends as WalkEnds, Broken as WalkBroken}
+use Rattle.answers.specs.Walk.{Walk}
+use Rattle.answers.specs.Walk.{Ends as WalkEnds, Broken as WalkBroken}
 use Rattle.answers.specs.Walk.{ends_at}
 use Rattle.text.specs.Char.{Scalar, encode_char, first_some}
 use Rattle.text.specs.Utf8.{text_of}
@@ -16,7 +16,9 @@ use Rattle.entry.specs.Record.{unlike}
 use Rattle.sheet.specs.Field.{quote, numbers, texts, is_mark, marked, doubled, quoted}
 use Rattle.sheet.specs.Marks.{doubled-quote, doubled-other}
 use Rattle.sheet.specs.Back.{Spells, plainly, in_quotes}
-use Rattle.scanning.specs.Steps.{spells, filled, takes, holds}
+use Rattle.scanning.specs.declared.Fill.{Fill}
+use Rattle.scanning.specs.declared.Fill.TheVariants.{Nothing}
+use Rattle.scanning.specs.Steps.{spells, is_all, filled, takes, holds}
 use Rattle.scanning.specs.Scan.{fits}
 
 -- what stands between a field's quotes, where it has them
@@ -279,12 +281,12 @@ texts-same t h = go (whole (doubled t)) refl (whole t) refl
 
 -- ---- a field as it stands
 
-digits-alone : (code fill : ℕ) (t : List ℕ) → spells code quote ≡ false → holds code fill t ≡ true → NoQuote t
+digits-alone : (code : ℕ) (fill : Fill) (t : List ℕ) → spells code quote ≡ false → holds code fill t ≡ true → NoQuote t
 unfolding NoQuote holds takes
 digits-alone code fill [] h e = tt
 digits-alone code fill (x ∷ t) h e =
-    taken (cond (eqb fill 2) false (spells code x)) _ _ _ e
-    (λ a b. taken (eqb fill 2) _ _ _ a (λ c d. unlike d)
+    taken (cond (is_all fill) false (spells code x)) _ _ _ e
+    (λ a b. taken (is_all fill) _ _ _ a (λ c d. unlike d)
     (λ c d. ((λ z. unlike (sym (ap (spells code) z ∙ h) ∙ d)), digits-alone code (filled code fill x) t h b)))
     (λ a b. unlike b)
 
@@ -324,12 +326,13 @@ fits-doubled t =
     (λ h. fits-text (doubled t) (doubled-some t h) ∙ texts-same t h ∙ sym (fits-text t h))
 
 -- what the field holds fits exactly where what stands between its quotes does
-pub fits-inner : (code : ℕ) (t f : List ℕ) → Spells t f → holds code 0 t ≡ true → fits code (inner_of f) ≡ fits code t
+pub fits-inner : (code : ℕ) (t f : List ℕ) → Spells t f → holds code Nothing t ≡ true
+    → fits code (inner_of f) ≡ fits code t
 fits-inner code t f (plainly e m) h = ap (fits code) (ap inner_of e ∙ inner-plain t m)
 fits-inner code t f (in_quotes e) h =
     ap (fits code) (ap inner_of e ∙ inner-quoted t)
     ∙ elim (ℕ_discrete code numbers) [
-      | yes q ↦ ap (fits code) (doubled-same t (digits-alone code 0 t (rw q digits-only) h))
+      | yes q ↦ ap (fits code) (doubled-same t (digits-alone code Nothing t (rw q digits-only) h))
       | no q ↦ elim (ℕ_discrete code texts) [
         | yes p ↦ rw p (fits-doubled t)
         | no p ↦ fits-other code (doubled t) q p

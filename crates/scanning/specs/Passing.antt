@@ -10,15 +10,18 @@ use mathlib.Core.List.{List, [], ◌∷◌}
 use Rattle.std.proofs.Math.Dec.{eqb}
 use borrow.Author.Tests.{le-leb, ne_eqb, eqb-true, eqb-false}
 use Rattle.octets.specs.Cases.{same-either}
-use Rattle.answers.specs.declared.Walk.{Walk}
-use Rattle.answers.specs.declared.Walk.TheVariants.{Ends as WalkEnds, Broken as WalkBroken}
+use Rattle.answers.specs.Walk.{Walk}
+use Rattle.answers.specs.Walk.{Ends as WalkEnds, Broken as WalkBroken}
+use Rattle.entry.specs.Record.{unlike}
 use Rattle.sheet.specs.Field.{numbers, quote, is_mark}
 use Rattle.sheet.specs.Marks.{mark-quote, no-mark}
 use Rattle.sheet.specs.Values.{is_string}
+use Rattle.scanning.specs.declared.Fill.{Fill}
+use Rattle.scanning.specs.declared.Fill.TheVariants.{Nothing, More}
 use Rattle.scanning.specs.declared.Stage.{Stage}
 use Rattle.scanning.specs.declared.Stage.TheVariants.{Outside, Inside, Behind}
 use Rattle.scanning.specs.declared.Step.TheVariants.{Goes, Ends, Broken}
-use Rattle.scanning.specs.Steps.{spells, takes, filled, step_of, moved, field_from, digit-plain}
+use Rattle.scanning.specs.Steps.{spells, is_nothing, is_all, takes, filled, step_of, moved, field_from, digit-plain}
 use Rattle.scanning.specs.Steps.{string-takes, string-filled, string-zero}
 use Rattle.scanning.specs.FieldBack.{AnEnd}
 use Rattle.scanning.specs.Runs.{field_step}
@@ -70,9 +73,9 @@ module _ (plain : ℕ → Bool) (code e : ℕ) where
 module _ (code e : ℕ) (s : is_string code ≡ true) (a : AnEnd e) where
   -- ---- one octet
 
-  inside-octet : (fill x : ℕ) → (fill ≡ 2 → ⊥)
+  inside-octet : (fill : Fill) (x : ℕ) → is_all fill ≡ false
       → step_of code e (Inside fill) x
-      ≡ cond (eqb x quote) (Goes Behind) (cond (eqb x 0) Broken (Goes (Inside 1)))
+      ≡ cond (eqb x quote) (Goes Behind) (cond (eqb x 0) Broken (Goes (Inside More)))
   unfolding step_of
   inside-octet fill x n =
       elim (ℕ_discrete x 0) [
@@ -81,39 +84,39 @@ module _ (code e : ℕ) (s : is_string code ≡ true) (a : AnEnd e) where
       ]
 
   behind-octet : (x : ℕ)
-      → step_of code e Behind x ≡ cond (eqb x e) Ends (cond (eqb x quote) (Goes (Inside 1)) Broken)
+      → step_of code e Behind x ≡ cond (eqb x e) Ends (cond (eqb x quote) (Goes (Inside More)) Broken)
   unfolding step_of
   behind-octet x = rw s
 
-  outside-octet : (fill x : ℕ) → (fill ≡ 2 → ⊥) → (fill ≡ 0 → x ≡ quote → ⊥)
-      → step_of code e (Outside fill) x ≡ cond (is_plain x) (Goes (Outside 1)) (cond (eqb x e) Ends Broken)
+  outside-octet : (fill : Fill) (x : ℕ) → is_all fill ≡ false → (is_nothing fill ≡ true → x ≡ quote → ⊥)
+      → step_of code e (Outside fill) x ≡ cond (is_plain x) (Goes (Outside More)) (cond (eqb x e) Ends Broken)
   unfolding step_of is_plain
   outside-octet fill x n m = marks (is_mark x) refl
     where
       plain : is_mark x ≡ false → (b : Bool) → eqb x 0 ≡ b
           → cond (takes code fill x) (Goes (Outside (filled code fill x))) Broken
-          ≡ cond (cond b false true) (Goes (Outside 1)) Broken
+          ≡ cond (cond b false true) (Goes (Outside More)) Broken
       plain p true z = rw (eqb-true x 0 z, string-zero code fill s)
       plain p false z = rw (string-takes code fill x s n (eqb-false x 0 z), string-filled code fill x s)
 
-      late : (b : Bool) → eqb x quote ≡ b → (c : Bool) → eqb fill 0 ≡ c
-          → cond b (cond c (Goes (Inside 0)) Broken) Broken ≡ Broken
-      late true p true q = absurd (m (eqb-true fill 0 q) (eqb-true x quote p))
+      late : (b : Bool) → eqb x quote ≡ b → (c : Bool) → is_nothing fill ≡ c
+          → cond b (cond c (Goes (Inside Nothing)) Broken) Broken ≡ Broken
+      late true p true q = absurd (m q (eqb-true x quote p))
       late true p false q = refl
       late false p c q = refl
 
       marks : (b : Bool) → is_mark x ≡ b
           → cond (eqb x e) Ends
-          (cond (eqb x quote) (cond (eqb fill 0) (Goes (Inside 0)) Broken)
+          (cond (eqb x quote) (cond (is_nothing fill) (Goes (Inside Nothing)) Broken)
           (cond b Broken (cond (takes code fill x) (Goes (Outside (filled code fill x))) Broken)))
-          ≡ cond (cond b false (cond (eqb x 0) false true)) (Goes (Outside 1)) (cond (eqb x e) Ends Broken)
-      marks true p = ap (cond (eqb x e) Ends) (late (eqb x quote) refl (eqb fill 0) refl)
+          ≡ cond (cond b false (cond (eqb x 0) false true)) (Goes (Outside More)) (cond (eqb x e) Ends Broken)
+      marks true p = ap (cond (eqb x e) Ends) (late (eqb x quote) refl (is_nothing fill) refl)
       marks false p = rw (no-mark x e p a.mark, no-mark x quote p mark-quote) (plain p (eqb x 0) refl)
 
   -- ---- a field
 
   Quoted : ℕ → List ℕ → Type 0
-  Quoted i xs = ((fill : ℕ) → (fill ≡ 2 → ⊥) → field_from code e (Inside fill) i xs ≡ quoted_from false e i xs)
+  Quoted i xs = ((fill : Fill) → is_all fill ≡ false → field_from code e (Inside fill) i xs ≡ quoted_from false e i xs)
       × (field_from code e Behind i xs ≡ quoted_from true e i xs)
 
   quoted-more : (i x : ℕ) (xs : List ℕ) → Quoted (i + 1) xs → Quoted i (x ∷ xs)
@@ -124,18 +127,19 @@ module _ (code e : ℕ) (s : is_string code ≡ true) (a : AnEnd e) where
   )
     where
       inner : (b c : Bool)
-          → moved (cond b (Goes Behind) (cond c Broken (Goes (Inside 1)))) i (λ t. field_from code e t (i + 1) xs)
+          → moved (cond b (Goes Behind) (cond c Broken (Goes (Inside More)))) i (λ t. field_from code e t (i + 1) xs)
           (WalkEnds i)
           ≡ cond b (quoted_from true e (i + 1) xs) (cond c (WalkBroken i) (quoted_from false e (i + 1) xs))
       inner true c = ih.1
       inner false true = refl
-      inner false false = ih.0 1 (λ z. omega arith)
+      inner false false = ih.0 More refl
 
       behind : (b c : Bool)
-          → moved (cond b Ends (cond c (Goes (Inside 1)) Broken)) i (λ t. field_from code e t (i + 1) xs) (WalkEnds i)
+          → moved (cond b Ends (cond c (Goes (Inside More)) Broken)) i (λ t. field_from code e t (i + 1) xs)
+          (WalkEnds i)
           ≡ cond b (WalkEnds i) (cond c (quoted_from false e (i + 1) xs) (WalkBroken i))
       behind true c = refl
-      behind false true = ih.0 1 (λ z. omega arith)
+      behind false true = ih.0 More refl
       behind false false = refl
 
   quoted-none : (i : ℕ) → Quoted i []
@@ -146,21 +150,21 @@ module _ (code e : ℕ) (s : is_string code ≡ true) (a : AnEnd e) where
   quoted-is [] i = quoted-none i
   quoted-is (x ∷ xs) i = quoted-more i x xs (quoted-is xs (i + 1))
 
-  open-octet : step_of code e (Outside 0) quote ≡ Goes (Inside 0)
+  open-octet : step_of code e (Outside Nothing) quote ≡ Goes (Inside Nothing)
   unfolding step_of
   open-octet = rw (ne_eqb quote e a.other)
 
-  pub string-is : (i : ℕ) (xs : List ℕ) → field_from code e (Outside 0) i xs ≡ string_from e i xs
+  pub string-is : (i : ℕ) (xs : List ℕ) → field_from code e (Outside Nothing) i xs ≡ string_from e i xs
   unfolding string_from Quoted field_from
   string-is i [] = refl
   string-is i (x ∷ xs) =
       elim (ℕ_discrete x quote) [
-        | yes z ↦ rw (z, open-octet) ((quoted-is xs (i + 1)).0 0 (λ z. omega arith))
+        | yes z ↦ rw (z, open-octet) ((quoted-is xs (i + 1)).0 Nothing refl)
         | no z ↦
             rw (ne_eqb x quote z)
-            (pass_step is_plain code e (Outside 0) (Outside 1) i x xs (outside-octet 0 x (λ y. omega arith) (λ y. z))
-            (passes is_plain code e (Outside 1)
-            (λ y. outside-octet 1 y (λ w. omega arith) (λ w. absurd (omega arith))) xs (i + 1)))
+            (pass_step is_plain code e (Outside Nothing) (Outside More) i x xs (outside-octet Nothing x refl (λ y. z))
+            (passes is_plain code e (Outside More)
+            (λ y. outside-octet More y refl (λ w. unlike w)) xs (i + 1)))
       ]
 
 -- ---- a number
@@ -176,20 +180,21 @@ digit-is x h l = rw (le-leb 48 x h, le-leb x 57 l)
 module _ (e : ℕ) (a : AnEnd e) where
   -- behind its first digit
   more-octet : (x : ℕ)
-      → step_of numbers e (Outside 1) x ≡ cond (spells numbers x) (Goes (Outside 1)) (cond (eqb x e) Ends Broken)
+      → step_of numbers e (Outside More) x ≡ cond (spells numbers x) (Goes (Outside More)) (cond (eqb x e) Ends Broken)
   unfolding step_of takes filled
   more-octet x = go (spells numbers x) refl
     where
       go : (b : Bool) → spells numbers x ≡ b
-          → cond (eqb x e) Ends (cond (eqb x quote) Broken (cond (is_mark x) Broken (cond b (Goes (Outside 1)) Broken)))
-          ≡ cond b (Goes (Outside 1)) (cond (eqb x e) Ends Broken)
+          → cond (eqb x e) Ends
+          (cond (eqb x quote) Broken (cond (is_mark x) Broken (cond b (Goes (Outside More)) Broken)))
+          ≡ cond b (Goes (Outside More)) (cond (eqb x e) Ends Broken)
       go true h =
           let p = digit-plain numbers x number-kind h in
           rw (p, no-mark x e p a.mark, no-mark x quote p mark-quote)
       go false h =
           rw (same-either (is_mark x) Broken, same-either (eqb x quote) Broken)
 
-  first-octet : (x : ℕ) → 49 ≤ x → x ≤ 57 → step_of numbers e (Outside 0) x ≡ Goes (Outside 1)
+  first-octet : (x : ℕ) → 49 ≤ x → x ≤ 57 → step_of numbers e (Outside Nothing) x ≡ Goes (Outside More)
   unfolding step_of takes filled
   first-octet x h l =
       let q : spells numbers x ≡ true = digit-is x (omega arith) l in
@@ -197,7 +202,7 @@ module _ (e : ℕ) (a : AnEnd e) where
       rw (p, no-mark x e p a.mark, no-mark x quote p mark-quote, q, ne_eqb x 48 (omega arith))
 
   pub number_is : (i x : ℕ) (xs : List ℕ) → 49 ≤ x → x ≤ 57
-      → field_from numbers e (Outside 0) i (x ∷ xs) ≡ pass_from (spells numbers) e (i + 1) xs
+      → field_from numbers e (Outside Nothing) i (x ∷ xs) ≡ pass_from (spells numbers) e (i + 1) xs
   number_is i x xs h l =
-      field_step numbers e (Outside 0) i x xs (Goes (Outside 1)) (first-octet x h l)
-      ∙ passes (spells numbers) numbers e (Outside 1) more-octet xs (i + 1)
+      field_step numbers e (Outside Nothing) i x xs (Goes (Outside More)) (first-octet x h l)
+      ∙ passes (spells numbers) numbers e (Outside More) more-octet xs (i + 1)

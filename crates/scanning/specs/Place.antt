@@ -4,9 +4,10 @@ use Rattle.std.specs.Prelude.{ℕ, zero, suc, ◌+◌, ◌≤◌, ◌<◌, ◌�
 use Rattle.std.proofs.Common.{zero-add, arith, sym, ◌∙◌}
 use Rattle.std.proofs.Math.Path.{ap}
 use Rattle.std.proofs.Math.Bool.{true, false, cond}
-use Rattle.answers.specs.declared.Walk.{Walk}
-use Rattle.answers.specs.declared.Walk.TheVariants.{Ends as WalkEnds, Broken as WalkBroken}
+use Rattle.answers.specs.Walk.{Walk}
+use Rattle.answers.specs.Walk.{Ends as WalkEnds, Broken as WalkBroken}
 use Rattle.sheet.specs.Field.{quote, lf}
+use Rattle.scanning.specs.declared.Fill.TheVariants.{Nothing}
 use Rattle.scanning.specs.declared.Stage.{Stage}
 use Rattle.scanning.specs.declared.Stage.TheVariants.{Outside, Inside, Behind}
 use Rattle.scanning.specs.declared.Step.{Step}
@@ -36,39 +37,40 @@ module _ (codes : List ℕ) where
   one_on_lem j k s t f g i x e c =
       record { tail = x ∷ c.tail; taken = e c.tail ∙ c.taken ∙ ap WalkEnds (omega arith) }
 
-  none-on : (i : ℕ) → from 0 (Outside 0) [] i [] ≡ WalkEnds (i + 0)
+  none-on : (i : ℕ) → from 0 (Outside Nothing) [] i [] ≡ WalkEnds (i + 0)
   unfolding scan_from
   none-on i = ap WalkEnds (omega arith)
 
   line-end : (f : List ℕ) (i j : ℕ) → length codes ≤ j → (s : Stage) → Closes j s f i
   line-end f i j h s =
-      one_on_lem j 0 s (Outside 0) f [] i lf (due-is anything codes j s f i lf h) (record {
+      one_on_lem j 0 s (Outside Nothing) f [] i lf (due-is anything codes j s f i lf h) (record {
         tail = [];
         taken = none-on (i + 1);
       })
 
   ends_on : (f : List ℕ) (i j : ℕ) (s : Stage) → j < length codes
-      → step_of (get_or codes j 0) (end_at codes j) s (end_at codes j) ≡ Ends → Closes (j + 1) (Outside 0) [] (i + 1)
-      → Closes j s f i
+      → step_of (get_or codes j 0) (end_at codes j) s (end_at codes j) ≡ Ends
+      → Closes (j + 1) (Outside Nothing) [] (i + 1) → Closes j s f i
   ends_on f i j s h e c =
-      one_on_lem j (j + 1) s (Outside 0) f [] i (end_at codes j) (step_is anything codes j s f i (end_at codes j) Ends h e) c
+      one_on_lem j (j + 1) s (Outside Nothing) f [] i (end_at codes j)
+      (step_is anything codes j s f i (end_at codes j) Ends h e) c
 
   closes : (left j : ℕ) → j + left ≡ length codes → (s : Stage) (f : List ℕ) (i : ℕ) → Closes j s f i
   closes zero j e s f i = line-end f i j (omega arith) s
   closes (suc left) j e (Outside fill) f i =
       ends_on f i j (Outside fill) (omega arith)
       (step_end (get_or codes j 0) (end_at codes j) (end_is (drop (j + 1) codes)) fill)
-      (closes left (j + 1) (omega arith) (Outside 0) [] (i + 1))
+      (closes left (j + 1) (omega arith) (Outside Nothing) [] (i + 1))
   closes (suc left) j e Behind f i =
       ends_on f i j Behind (omega arith) (step-last (get_or codes j 0) (end_at codes j) (end_is (drop (j + 1) codes)))
-      (closes left (j + 1) (omega arith) (Outside 0) [] (i + 1))
+      (closes left (j + 1) (omega arith) (Outside Nothing) [] (i + 1))
   closes (suc left) j e (Inside fill) f i =
       one_on_lem j j (Inside fill) Behind f (f ++ (quote ∷ [])) i quote
       (step_is anything codes j (Inside fill) f i quote (Goes Behind) (omega arith)
       (step-close (get_or codes j 0) (end_at codes j) (end_is (drop (j + 1) codes)) fill))
       (ends_on (f ++ (quote ∷ [])) (i + 1) j Behind (omega arith)
       (step-last (get_or codes j 0) (end_at codes j) (end_is (drop (j + 1) codes)))
-      (closes left (j + 1) (omega arith) (Outside 0) [] (i + 1 + 1)))
+      (closes left (j + 1) (omega arith) (Outside Nothing) [] (i + 1 + 1)))
 
   -- ---- the place
 
@@ -105,7 +107,7 @@ module _ (codes : List ℕ) where
         dead = λ h more. e (take (suc r.before) xs ++ more) ∙ r.dead (omega arith) more;
       }
 
-  broken-one : {i p : ℕ} → WalkBroken i ≡ WalkBroken p → i ≡ p
+  broken-one : {i p : ℕ} → ◌≡◌ {A = Walk} (WalkBroken i) (WalkBroken p) → i ≡ p
   broken-one e = cc
 
   stuck : (j : ℕ) (s : Stage) (f : List ℕ) (i x : ℕ) (xs : List ℕ) (p : ℕ) → Closes j s f i
@@ -128,33 +130,34 @@ module _ (codes : List ℕ) where
   fault-is left j h s f i [] p e =
       here j s f i [] p (closes left j h s f i) (nothing_left j s f i p e) (λ z. absurd (omega arith))
   fault-is zero j h s f i (x ∷ xs) p e =
-      go (eqb x lf) refl (λ q. fault-is (length codes) 0 (zero-add (length codes)) (Outside 0) [] (i + 1) xs p q)
+      go (eqb x lf) refl (λ q. fault-is (length codes) 0 (zero-add (length codes)) (Outside Nothing) [] (i + 1) xs p q)
     where
       due : (b : Bool) → eqb x lf ≡ b → (ys : List ℕ)
-          → from j s f i (x ∷ ys) ≡ cond b (from 0 (Outside 0) [] (i + 1) ys) (WalkBroken i)
+          → from j s f i (x ∷ ys) ≡ cond b (from 0 (Outside Nothing) [] (i + 1) ys) (WalkBroken i)
       due b q ys = due-is anything codes j s f i x (omega arith) ys ∙ rw q
 
       go : (b : Bool) → eqb x lf ≡ b
-          → (from 0 (Outside 0) [] (i + 1) xs ≡ WalkBroken p → FaultIs 0 (Outside 0) [] (i + 1) xs p)
+          → (from 0 (Outside Nothing) [] (i + 1) xs ≡ WalkBroken p → FaultIs 0 (Outside Nothing) [] (i + 1) xs p)
           → FaultIs j s f i (x ∷ xs) p
-      go true q ih = further j 0 s (Outside 0) f [] i x xs p (due true q) (ih (sym (due true q xs) ∙ e))
+      go true q ih = further j 0 s (Outside Nothing) f [] i x xs p (due true q) (ih (sym (due true q xs) ∙ e))
       go false q ih = stuck j s f i x xs p (closes 0 j h s f i) (due false q) e
   fault-is (suc left) j h s f i (x ∷ xs) p e =
       go (step_of (get_or codes j 0) (end_at codes j) s x) refl
       (λ t q. fault-is (suc left) j h t (f ++ (x ∷ [])) (i + 1) xs p q)
-      (λ q. fault-is left (j + 1) (omega arith) (Outside 0) [] (i + 1) xs p q)
+      (λ q. fault-is left (j + 1) (omega arith) (Outside Nothing) [] (i + 1) xs p q)
     where
       go : (t : Step) → step_of (get_or codes j 0) (end_at codes j) s x ≡ t
           → ((u : Stage) → from j u (f ++ (x ∷ [])) (i + 1) xs ≡ WalkBroken p
           → FaultIs j u (f ++ (x ∷ [])) (i + 1) xs p)
-          → (from (j + 1) (Outside 0) [] (i + 1) xs ≡ WalkBroken p → FaultIs (j + 1) (Outside 0) [] (i + 1) xs p)
+          → (from (j + 1) (Outside Nothing) [] (i + 1) xs ≡ WalkBroken p
+          → FaultIs (j + 1) (Outside Nothing) [] (i + 1) xs p)
           → FaultIs j s f i (x ∷ xs) p
       go (Goes u) q ih jh =
           let g = step_is anything codes j s f i x (Goes u) (omega arith) q in
           further j j s u f (f ++ (x ∷ [])) i x xs p g (ih u (sym (g xs) ∙ e))
       go Ends q ih jh =
           let g = step_is anything codes j s f i x Ends (omega arith) q in
-          further j (j + 1) s (Outside 0) f [] i x xs p g (jh (sym (g xs) ∙ e))
+          further j (j + 1) s (Outside Nothing) f [] i x xs p g (jh (sym (g xs) ∙ e))
       go Broken q ih jh =
           stuck j s f i x xs p (closes (suc left) j h s f i) (step_is anything codes j s f i x Broken (omega arith) q) e
 
@@ -167,7 +170,7 @@ pub record PlaceIs (codes xs : List ℕ) (p : ℕ) : Type 0 where
 
 pub place_is : (codes xs : List ℕ) (p : ℕ) → scan_in anything codes xs ≡ WalkBroken p → PlaceIs codes xs p
 place_is codes xs p e =
-    let r = fault-is codes (length codes) 0 (zero-add (length codes)) (Outside 0) [] 0 xs p e in
+    let r = fault-is codes (length codes) 0 (zero-add (length codes)) (Outside Nothing) [] 0 xs p e in
     let z : r.before ≡ p = sym (r.place ∙ zero-add r.before) in
     record {
       within = rw z at r.within;

@@ -4,11 +4,12 @@ use Rattle.std.specs.Prelude.{ℕ, suc, ◌+◌, ◌-◌, ◌≤◌, ◌<◌, �
 use Rattle.std.proofs.Common.{add-zero, arith, add-one, sym, ap, ◌∙◌, append-nil, length-append, length-drop, drop_of_length-le, drop-cons, lt-ltb, le-ltb, eqb-true}
 use Rattle.std.proofs.Math.Seq.{append_snoc}
 use Rattle.octets.specs.Cases.{split}
-use Rattle.answers.specs.declared.Walk.{Walk}
-use Rattle.answers.specs.declared.Walk.TheVariants.{Ends as WalkEnds, Broken as WalkBroken}
+use Rattle.answers.specs.Walk.{Walk}
+use Rattle.answers.specs.Walk.{Ends as WalkEnds, Broken as WalkBroken}
 use Rattle.answers.specs.Walk.{no_end}
 use Rattle.entry.specs.Record.{unlike}
 use Rattle.sheet.specs.Field.{lf}
+use Rattle.scanning.specs.declared.Fill.TheVariants.{Nothing}
 use Rattle.scanning.specs.declared.Stage.{Stage}
 use Rattle.scanning.specs.declared.Stage.TheVariants.{Outside}
 use Rattle.scanning.specs.declared.Step.{Step}
@@ -49,7 +50,8 @@ module _ (raw : ℕ → List ℕ → Bool) (codes : List ℕ) where
   -- what follows where field j has ended with the text f
   abbrev pub ended : ℕ → List ℕ → ℕ → List ℕ → Walk
   ended j f i xs =
-      cond (raw (get_or codes j 0) f) (scan_from raw codes (j + 1) (Outside 0) [] (i + 1) xs) (WalkBroken (i - length f))
+      cond (raw (get_or codes j 0) f) (scan_from raw codes (j + 1) (Outside Nothing) [] (i + 1) xs)
+      (WalkBroken (i - length f))
 
   pub step_is : (j : ℕ) (s : Stage) (f : List ℕ) (i x : ℕ) (t : Step) → j < length codes
       → step_of (get_or codes j 0) (end_at codes j) s x ≡ t → (xs : List ℕ)
@@ -61,7 +63,7 @@ module _ (raw : ℕ → List ℕ → Bool) (codes : List ℕ) where
   -- behind the last field of a line
   pub due-is : (j : ℕ) (s : Stage) (f : List ℕ) (i x : ℕ) → length codes ≤ j → (xs : List ℕ)
       → scan_from raw codes j s f i (x ∷ xs)
-      ≡ cond (eqb x lf) (scan_from raw codes 0 (Outside 0) [] (i + 1) xs) (WalkBroken i)
+      ≡ cond (eqb x lf) (scan_from raw codes 0 (Outside Nothing) [] (i + 1) xs) (WalkBroken i)
   unfolding scan_from
   due-is j s f i x h xs = rw (le-ltb j (length codes) h)
 
@@ -78,7 +80,8 @@ module _ (raw : ℕ → List ℕ → Bool) (codes : List ℕ) where
     pub within : wide < length xs
     pub scans : scan_from raw codes j s f i xs
         ≡ cond (raw (get_or codes j 0) (f ++ take wide xs))
-        (scan_from raw codes (j + 1) (Outside 0) [] (i + wide + 1) (drop (suc wide) xs)) (WalkBroken (i - length f))
+        (scan_from raw codes (j + 1) (Outside Nothing) [] (i + wide + 1) (drop (suc wide) xs))
+        (WalkBroken (i - length f))
 
   pub runs : (xs : List ℕ) (j : ℕ) (s : Stage) (f : List ℕ) (i v : ℕ) → j < length codes
       → field_from (get_or codes j 0) (end_at codes j) s i xs ≡ WalkEnds v → Runs j s f i xs v

@@ -4,13 +4,14 @@ use Prim.Native.Nat.{ℕ, zero, suc, ◌+◌, ◌≤◌, ◌<◌}
 use Rattle.std.proofs.Common.{arith, ◌∙◌, le-ltb}
 use Rattle.std.specs.Prelude.{◌≡◌, Bool, true, get_or}
 use Rattle.std.proofs.Math.Path.{refl, sym, ap}
-use mathlib.Core.List.{List, [], ◌∷◌, ◌++◌}
+use mathlib.Core.List.{List, [], ◌∷◌}
 use Rattle.std.proofs.Math.ListN.{length, take, drop, length-append}
 use Rattle.std.proofs.Math.Seq.{take-append_seam}
 use Rattle.octets.specs.Cases.{split}
-use Rattle.answers.specs.declared.Walk.{Walk}
-use Rattle.answers.specs.declared.Walk.TheVariants.{Ends as WalkEnds, Broken as WalkBroken}
+use Rattle.answers.specs.Walk.{Walk}
+use Rattle.answers.specs.Walk.{Ends as WalkEnds, Broken as WalkBroken}
 use Rattle.sheet.specs.Back.{Spells, content-back}
+use Rattle.scanning.specs.declared.Fill.TheVariants.{Nothing}
 use Rattle.scanning.specs.declared.Stage.TheVariants.{Outside}
 use Rattle.scanning.specs.Steps.{holds, field_from}
 use Rattle.scanning.specs.Scan.{fits, held, end_at, scan_from, scan_in}
@@ -19,29 +20,30 @@ use Rattle.scanning.specs.Runs.{runs, fails, drop_past}
 use Rattle.scanning.specs.Inner.{inner_of, fits-inner}
 
 module _ (raw way : ℕ → List ℕ → Bool) (codes : List ℕ)
-    (agree : (code : ℕ) (t f : List ℕ) → Spells t f → holds code 0 t ≡ true → raw code f ≡ way code f) where
+    (agree : (code : ℕ) (t f : List ℕ) → Spells t f → holds code Nothing t ≡ true → raw code f ≡ way code f) where
   Sames : ℕ → Type 0
   Sames n =
       (j i : ℕ) (xs : List ℕ) → length xs ≤ n
-      → scan_from raw codes j (Outside 0) [] i xs ≡ scan_from way codes j (Outside 0) [] i xs
+      → scan_from raw codes j (Outside Nothing) [] i xs ≡ scan_from way codes j (Outside Nothing) [] i xs
 
-  none-same : (j i : ℕ) → scan_from raw codes j (Outside 0) [] i [] ≡ scan_from way codes j (Outside 0) [] i []
+  none-same : (j i : ℕ) → scan_from raw codes j (Outside Nothing) [] i []
+      ≡ scan_from way codes j (Outside Nothing) [] i []
   unfolding scan_from
   none-same j i = refl
 
   due-same : (n j i x : ℕ) (xs : List ℕ) → Sames n → length xs ≤ n → length codes ≤ j
-      → scan_from raw codes j (Outside 0) [] i (x ∷ xs) ≡ scan_from way codes j (Outside 0) [] i (x ∷ xs)
+      → scan_from raw codes j (Outside Nothing) [] i (x ∷ xs) ≡ scan_from way codes j (Outside Nothing) [] i (x ∷ xs)
   unfolding scan_from Sames
   due-same n j i x xs ih h l = rw (le-ltb j (length codes) l, ih 0 (i + 1) xs h)
 
   -- a field that ends
   field-same : (n j i : ℕ) (xs : List ℕ) (v : ℕ) → Sames n → length xs ≤ suc n → j < length codes
-      → field_from (get_or codes j 0) (end_at codes j) (Outside 0) i xs ≡ WalkEnds v
-      → scan_from raw codes j (Outside 0) [] i xs ≡ scan_from way codes j (Outside 0) [] i xs
+      → field_from (get_or codes j 0) (end_at codes j) (Outside Nothing) i xs ≡ WalkEnds v
+      → scan_from raw codes j (Outside Nothing) [] i xs ≡ scan_from way codes j (Outside Nothing) [] i xs
   unfolding Sames
   field-same n j i xs v ih h l e =
-      let r = runs raw codes xs j (Outside 0) [] i v l e in
-      let w = runs way codes xs j (Outside 0) [] i v l e in
+      let r = runs raw codes xs j (Outside Nothing) [] i v l e in
+      let w = runs way codes xs j (Outside Nothing) [] i v l e in
       let s = field-sound (get_or codes j 0) (end_at codes j) xs i v e in
       let a : r.wide ≡ length s.field = omega (arith, r.ends, s.ends) in
       let b : w.wide ≡ length s.field = omega (arith, w.ends, s.ends) in
@@ -61,15 +63,17 @@ module _ (raw way : ℕ → List ℕ → Bool) (codes : List ℕ)
   more_same n ih j i [] h = none-same j i
   more_same n ih j i (x ∷ xs) h =
       split j (length codes)
-      (λ l. go (field_from (get_or codes j 0) (end_at codes j) (Outside 0) i (x ∷ xs)) refl l)
+      (λ l. go (field_from (get_or codes j 0) (end_at codes j) (Outside Nothing) i (x ∷ xs)) refl l)
       (λ l. due-same n j i x xs ih (omega arith) l)
     where
-      go : (r : Walk) → field_from (get_or codes j 0) (end_at codes j) (Outside 0) i (x ∷ xs) ≡ r → j < length codes
-          → scan_from raw codes j (Outside 0) [] i (x ∷ xs) ≡ scan_from way codes j (Outside 0) [] i (x ∷ xs)
+      go : (r : Walk) → field_from (get_or codes j 0) (end_at codes j) (Outside Nothing) i (x ∷ xs) ≡ r
+          → j < length codes
+          → scan_from raw codes j (Outside Nothing) [] i (x ∷ xs)
+          ≡ scan_from way codes j (Outside Nothing) [] i (x ∷ xs)
       go (WalkEnds v) e l = field-same n j i (x ∷ xs) v ih h l e
       go (WalkBroken p) e l =
-          fails raw codes (x ∷ xs) j (Outside 0) [] i p l (λ z. omega arith) e
-          ∙ sym (fails way codes (x ∷ xs) j (Outside 0) [] i p l (λ z. omega arith) e)
+          fails raw codes (x ∷ xs) j (Outside Nothing) [] i p l (λ z. omega arith) e
+          ∙ sym (fails way codes (x ∷ xs) j (Outside Nothing) [] i p l (λ z. omega arith) e)
 
   first-same : Sames 0
   unfolding Sames

@@ -2,13 +2,14 @@
 -- is looked at once the field has ended: by `held fits`, which tells numbers too large and wrong UTF-8, or, where sizes
 -- and UTF-8 are left aside, by `anything`. Assumes nothing.
 use Rattle.std.specs.Prelude.{ℕ, ◌+◌, ◌-◌, Bool, true, false, cond, List, [], ◌∷◌, ◌++◌, eqb, ltb, length, drop, get_or}
-use Rattle.answers.specs.declared.Walk.{Walk}
-use Rattle.answers.specs.declared.Walk.TheVariants.{Ends as WalkEnds, Broken as WalkBroken}
+use Rattle.answers.specs.Walk.{Walk}
+use Rattle.answers.specs.Walk.{Ends as WalkEnds, Broken as WalkBroken}
 use Rattle.answers.specs.Walk.{ends_at}
 use Rattle.text.specs.Utf8.{text_of}
 use Rattle.sheet.specs.Digits.{number_in}
 use Rattle.sheet.specs.Field.{lf, numbers, texts, end_of}
 use Rattle.sheet.specs.Reading.{content_in}
+use Rattle.scanning.specs.declared.Fill.TheVariants.{Nothing}
 use Rattle.scanning.specs.declared.Stage.{Stage}
 use Rattle.scanning.specs.declared.Stage.TheVariants.{Outside}
 use Rattle.scanning.specs.Steps.{step_of, moved}
@@ -43,10 +44,10 @@ scan_from good codes j s f i (x ∷ xs) =
     cond (ltb j (length codes))
     (moved (step_of (get_or codes j 0) (end_at codes j) s x) i
     (λ t. scan_from good codes j t (f ++ (x ∷ [])) (i + 1) xs)
-    (cond (good (get_or codes j 0) f) (scan_from good codes (j + 1) (Outside 0) [] (i + 1) xs)
+    (cond (good (get_or codes j 0) f) (scan_from good codes (j + 1) (Outside Nothing) [] (i + 1) xs)
     (WalkBroken (i - length f))))
-    (cond (eqb x lf) (scan_from good codes 0 (Outside 0) [] (i + 1) xs) (WalkBroken i))
+    (cond (eqb x lf) (scan_from good codes 0 (Outside Nothing) [] (i + 1) xs) (WalkBroken i))
 
 -- whether xs is lines of fields of these types, or the place of the first fault
 abbrev pub scan_in : (ℕ → List ℕ → Bool) → List ℕ → List ℕ → Walk
-scan_in good codes xs = scan_from good codes 0 (Outside 0) [] 0 xs
+scan_in good codes xs = scan_from good codes 0 (Outside Nothing) [] 0 xs

@@ -6,13 +6,14 @@ use Rattle.std.proofs.Math.Seq.{append_snoc}
 use Rattle.sheet.specs.Field.{lf, end_of}
 use Rattle.sheet.specs.Reading.{lines_from, lines_in}
 use Rattle.sheet.specs.Back.{Spells, field-read}
+use Rattle.scanning.specs.declared.Fill.TheVariants.{Nothing}
 use Rattle.scanning.specs.Steps.{holds}
 
 -- xs is a field of the type that holds t, what ends it, and a rest
 pub record FieldThen (code e : ℕ) (t xs : List ℕ) (Then : List ℕ → Type 0) : Type 0 where
   pub field : List ℕ
   pub spelt : Spells t field
-  pub held : holds code 0 t ≡ true
+  pub held : holds code Nothing t ≡ true
   pub rest : List ℕ
   pub goes : Then rest
   pub reads : xs ≡ field ++ (e ∷ rest)

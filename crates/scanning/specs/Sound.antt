@@ -4,8 +4,7 @@ use Rattle.std.proofs.Common.{arith, sym, ap, ◌∙◌, append-nil, length-appe
 use Rattle.std.proofs.Math.Decide.{ℕ_discrete}
 use Rattle.octets.specs.Cases.{split, taken}
 use Rattle.octets.specs.Octets.{Octets, octet_at, octets-append, octets-left, octets-right, no-octets}
-use Rattle.answers.specs.declared.Walk.{Walk}
-use Rattle.answers.specs.declared.Walk.TheVariants.{Ends as WalkEnds}
+use Rattle.answers.specs.Walk.{Ends as WalkEnds}
 use Rattle.whole.specs.Number.{encode_number}
 use Rattle.whole.specs.Laws.{number-octets}
 use Rattle.text.specs.Narrow.{NoZero}
@@ -22,6 +21,8 @@ use Rattle.sheet.specs.Reading.{value_from, values_from, rows_from}
 use Rattle.sheet.specs.Back.{Spells, plainly, in_quotes}
 use Rattle.sheet.specs.Values.{by-type, is_string, narrow-string, free_slot}
 use Rattle.sheet.specs.One.{free_slots, Exported, SoundChoice}
+use Rattle.scanning.specs.declared.Fill.{Fill}
+use Rattle.scanning.specs.declared.Fill.TheVariants.{Nothing}
 use Rattle.scanning.specs.Steps.{spells, filled, takes, holds, string-zero}
 use Rattle.scanning.specs.Scan.{fits}
 use Rattle.scanning.specs.Inner.{ends_is}
@@ -45,7 +46,7 @@ is-text ns c h v e = record { item = a_text ns; kind = refl; valid = (c, h); for
 
 -- ---- what may stand there
 
-string-full : (code fill : ℕ) (t : List ℕ) → is_string code ≡ true → holds code fill t ≡ true → NoZero t
+string-full : (code : ℕ) (fill : Fill) (t : List ℕ) → is_string code ≡ true → holds code fill t ≡ true → NoZero t
 unfolding holds
 string-full code fill [] s h = tt
 string-full code fill (x ∷ t) s h =
@@ -56,7 +57,7 @@ string-full code fill (x ∷ t) s h =
     ))
     (λ a b. unlike b)
 
-truth-small : (t : List ℕ) → holds truths 0 t ≡ true → 1 ≤ length t → octet_at t 0 - 48 < 2
+truth-small : (t : List ℕ) → holds truths Nothing t ≡ true → 1 ≤ length t → octet_at t 0 - 48 < 2
 unfolding holds takes spells
 truth-small [] h l = absurd (omega arith)
 truth-small (x ∷ t) h l =
@@ -90,8 +91,8 @@ octets-one : (b : ℕ) → b < 256 → Octets (b ∷ [])
 octets-one b h zero = h
 octets-one b h (suc i) = omega arith
 
-some-sound : (code : ℕ) (t : List ℕ) → is_exported code ≡ true → Octets t → holds code 0 t ≡ true → fits code t ≡ true
-    → 1 ≤ length t → SoundEntry (free_slot code) (value_from code t)
+some-sound : (code : ℕ) (t : List ℕ) → is_exported code ≡ true → Octets t → holds code Nothing t ≡ true
+    → fits code t ≡ true → 1 ≤ length t → SoundEntry (free_slot code) (value_from code t)
 unfolding value_from
 some-sound code t h o k f l =
     rw (ne_eqb (length t) 0 (omega arith))
@@ -99,7 +100,7 @@ some-sound code t h o k f l =
     (λ p. let n = number_small t (rw p at f) l in rw p (is_number (number_in t) n, number-octets (number_in t) n))
     (λ p. let n = truth-small t (rw p at k) l in
     rw p (is-truth (octet_at t 0 - 48) n, octets-one (octet_at t 0 - 48) (omega arith)))
-    (λ p. rw p (is-narrow t (string-full narrows 0 t narrow-string (rw p at k)) l, ended))
+    (λ p. rw p (is-narrow t (string-full narrows Nothing t narrow-string (rw p at k)) l, ended))
     (λ p. rw p (text-is t (rw p at f) l, ended)))
   where
     ended : Octets (t ++ (0 ∷ []))
@@ -109,7 +110,7 @@ none-sound : (code : ℕ) → SoundEntry (free_slot code) (value_from code [])
 unfolding value_from
 none-sound code = refl
 
-pub value-sound : (code : ℕ) (t : List ℕ) → is_exported code ≡ true → Octets t → holds code 0 t ≡ true
+pub value-sound : (code : ℕ) (t : List ℕ) → is_exported code ≡ true → Octets t → holds code Nothing t ≡ true
     → fits code t ≡ true → SoundEntry (free_slot code) (value_from code t)
 value-sound code t h o k f =
     split (length t) 1 (λ l. rw (no-octets t (omega arith)) (none-sound code)) (λ l. some-sound code t h o k f l)

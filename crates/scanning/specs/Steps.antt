@@ -5,11 +5,13 @@ use Rattle.std.proofs.Common.{arith, sym, ne_eqb, eqb-true, leb-true}
 use Rattle.std.proofs.Math.Path.{◌≡◌, refl}
 use Rattle.std.proofs.Math.Bool.{true, false, cond}
 use Rattle.octets.specs.Cases.{taken}
-use Rattle.answers.specs.declared.Walk.{Walk}
-use Rattle.answers.specs.declared.Walk.TheVariants.{Ends as WalkEnds, Broken as WalkBroken}
+use Rattle.answers.specs.Walk.{Walk}
+use Rattle.answers.specs.Walk.{Ends as WalkEnds, Broken as WalkBroken}
 use Rattle.entry.specs.Record.{unlike}
 use Rattle.sheet.specs.Field.{quote, numbers, truths, is_mark}
 use Rattle.sheet.specs.Values.{is_string}
+use Rattle.scanning.specs.declared.Fill.{Fill}
+use Rattle.scanning.specs.declared.Fill.TheVariants.{Nothing, More, All}
 use Rattle.scanning.specs.declared.Stage.{Stage}
 use Rattle.scanning.specs.declared.Stage.TheVariants.{Outside, Inside, Behind}
 use Rattle.scanning.specs.declared.Step.{Step}
@@ -22,18 +24,30 @@ spells code x =
     (cond (eqb code truths) (cond (leb 48 x) (leb x 49) false)
     (cond (eqb x 0) false true))
 
+-- whether nothing has been read
+abbrev pub is_nothing : Fill → Bool
+is_nothing Nothing = true
+is_nothing More = false
+is_nothing All = false
+
+-- whether nothing may follow
+abbrev pub is_all : Fill → Bool
+is_all Nothing = false
+is_all More = false
+is_all All = true
+
 -- what has been read once x follows: nothing may follow a number's leading zero, nor a 0 or 1
-unfoldable pub filled : ℕ → ℕ → ℕ → ℕ
+unfoldable pub filled : ℕ → Fill → ℕ → Fill
 filled code fill x =
-    cond (eqb code numbers) (cond (eqb fill 0) (cond (eqb x 48) 2 1) 1)
-    (cond (eqb code truths) 2 1)
+    cond (eqb code numbers) (cond (is_nothing fill) (cond (eqb x 48) All More) More)
+    (cond (eqb code truths) All More)
 
 -- whether x may follow
-unfoldable pub takes : ℕ → ℕ → ℕ → Bool
-takes code fill x = cond (eqb fill 2) false (spells code x)
+unfoldable pub takes : ℕ → Fill → ℕ → Bool
+takes code fill x = cond (is_all fill) false (spells code x)
 
 -- whether t may stand in a field of the type, behind what has been read
-unfoldable pub holds : ℕ → ℕ → List ℕ → Bool
+unfoldable pub holds : ℕ → Fill → List ℕ → Bool
 holds code fill [] = true
 holds code fill (x ∷ xs) = cond (takes code fill x) (holds code (filled code fill x) xs) false
 
@@ -41,7 +55,7 @@ holds code fill (x ∷ xs) = cond (takes code fill x) (holds code (filled code f
 unfoldable pub step_of : ℕ → ℕ → Stage → ℕ → Step
 step_of code e (Outside fill) x =
     cond (eqb x e) Ends
-    (cond (eqb x quote) (cond (eqb fill 0) (Goes (Inside 0)) Broken)
+    (cond (eqb x quote) (cond (is_nothing fill) (Goes (Inside Nothing)) Broken)
     (cond (is_mark x) Broken
     (cond (takes code fill x) (Goes (Outside (filled code fill x))) Broken)))
 step_of code e (Inside fill) x =
@@ -49,7 +63,7 @@ step_of code e (Inside fill) x =
     (cond (takes code fill x) (Goes (Inside (filled code fill x))) Broken)
 step_of code e Behind x =
     cond (eqb x e) Ends
-    (cond (eqb x quote) (cond (is_string code) (Goes (Inside 1)) Broken) Broken)
+    (cond (eqb x quote) (cond (is_string code) (Goes (Inside More)) Broken) Broken)
 
 -- what follows a step, i octets having gone before
 abbrev pub moved : Step → ℕ → (Stage → Walk) → Walk → Walk
@@ -64,10 +78,10 @@ field_from code e s i (x ∷ xs) = moved (step_of code e s x) i (λ t. field_fro
 
 -- ---- strings
 
-module _ (code fill x : ℕ) (s : is_string code ≡ true) where
-  pub string-takes : (fill ≡ 2 → ⊥) → (x ≡ 0 → ⊥) → takes code fill x ≡ true
+module _ (code : ℕ) (fill : Fill) (x : ℕ) (s : is_string code ≡ true) where
+  pub string-takes : is_all fill ≡ false → (x ≡ 0 → ⊥) → takes code fill x ≡ true
   unfolding takes spells is_string
-  string-takes f z = rw (ne_eqb fill 2 f) (go (eqb code numbers) (eqb code truths) s)
+  string-takes f z = rw f (go (eqb code numbers) (eqb code truths) s)
     where
       go : (a b : Bool) → cond a false (cond b false true) ≡ true
           → cond a (cond (leb 48 x) (leb x 57) false)
@@ -76,19 +90,19 @@ module _ (code fill x : ℕ) (s : is_string code ≡ true) where
       go false true e = unlike e
       go false false e = rw (ne_eqb x 0 z)
 
-  pub string-filled : filled code fill x ≡ 1
+  pub string-filled : filled code fill x ≡ More
   unfolding filled is_string
   string-filled = go (eqb code numbers) (eqb code truths) s
     where
       go : (a b : Bool) → cond a false (cond b false true) ≡ true
-          → ◌≡◌ {A = ℕ} (cond a (cond (eqb fill 0) (cond (eqb x 48) 2 1) 1) (cond b 2 1)) 1
+          → cond a (cond (is_nothing fill) (cond (eqb x 48) All More) More) (cond b All More) ≡ More
       go true b e = unlike e
       go false true e = unlike e
       go false false e = refl
 
-pub string-zero : (code fill : ℕ) → is_string code ≡ true → takes code fill 0 ≡ false
+pub string-zero : (code : ℕ) (fill : Fill) → is_string code ≡ true → takes code fill 0 ≡ false
 unfolding takes spells is_string
-string-zero code fill s = go (eqb fill 2) (eqb code numbers) (eqb code truths) s
+string-zero code fill s = go (is_all fill) (eqb code numbers) (eqb code truths) s
   where
     go : (a b c : Bool) → cond b false (cond c false true) ≡ true
         → cond a false (cond b false (cond c false false)) ≡ false

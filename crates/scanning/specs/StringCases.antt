@@ -1,11 +1,11 @@
 -- The ways of the code that scans strings, on plain values.
-use Rattle.std.specs.Prelude.{ℕ, ◌+◌, ◌≤◌, ◌<◌, ◌≡◌, Bool, true, false, cond, List, [], ◌∷◌, eqb, length, drop, get_or}
+use Rattle.std.specs.Prelude.{ℕ, ◌+◌, ◌≤◌, ◌<◌, ◌≡◌, Bool, true, false, cond, List, eqb, length, drop, get_or}
 use native.Mathlib.Omega.{arith}
 use Rattle.std.proofs.Common.{◌∙◌, drop_of_length-le}
 use borrow.Author.Tests.{eq-eqb, ne_eqb}
 use Rattle.octets.specs.Octets.{drop-next}
-use Rattle.answers.specs.declared.Walk.{Walk}
-use Rattle.answers.specs.declared.Walk.TheVariants.{Ends as WalkEnds, Broken as WalkBroken}
+use Rattle.answers.specs.Walk.{Walk}
+use Rattle.answers.specs.Walk.{Ends as WalkEnds, Broken as WalkBroken}
 use Rattle.sheet.specs.Field.{is_mark}
 use Rattle.scanning.specs.Passing.{is_plain, pass_from, quoted_from, string_from}
 
@@ -125,6 +125,55 @@ module _ (e : ℕ) (text : List ℕ) (at i : ℕ)
 
 pub ruleset quoted_cases =
     (inner-zero, inner-on, behind-none, behind-ends, behind-broken, behind-two, inner-over)
+
+-- the same octet by octet; b: a quote has been read that closes or is the first of two
+module _ (e : ℕ) (text : List ℕ) (at i : ℕ) (b : Bool)
+    (inv : quoted_from b e i (drop i text) ≡ quoted_from false e at (drop at text)) where
+  module _ (h : i < length text) where
+    module _ (z : b ≡ true) where
+      pub turn-ends : get_or text i 0 ≡ e → WalkEnds i ≡ quoted_from false e at (drop at text)
+      unfolding quoted_from
+      turn-ends y = rw (z, drop-next text i h, eq-eqb (get_or text i 0) e y) at inv
+
+      module _ (n : get_or text i 0 ≡ e → ⊥) where
+        pub turn-broken : (get_or text i 0 ≡ 34 → ⊥) → WalkBroken i ≡ quoted_from false e at (drop at text)
+        unfolding quoted_from
+        turn-broken y =
+            rw (z, drop-next text i h, ne_eqb (get_or text i 0) e n, ne_eqb (get_or text i 0) 34 y) at inv
+
+        pub turn-second : get_or text i 0 ≡ 34
+            → quoted_from false e (i + 1) (drop (i + 1) text) ≡ quoted_from false e at (drop at text)
+        unfolding quoted_from
+        turn-second y =
+            rw (z, drop-next text i h, ne_eqb (get_or text i 0) e n, eq-eqb (get_or text i 0) 34 y) at inv
+
+    module _ (z : b ≡ false) where
+      pub turn-first : get_or text i 0 ≡ 34
+          → quoted_from true e (i + 1) (drop (i + 1) text) ≡ quoted_from false e at (drop at text)
+      unfolding quoted_from
+      turn-first y = rw (z, drop-next text i h, eq-eqb (get_or text i 0) 34 y) at inv
+
+      module _ (n : get_or text i 0 ≡ 34 → ⊥) where
+        pub turn-zero : get_or text i 0 ≡ 0 → WalkBroken i ≡ quoted_from false e at (drop at text)
+        unfolding quoted_from
+        turn-zero y = rw (z, drop-next text i h, ne_eqb (get_or text i 0) 34 n, eq-eqb (get_or text i 0) 0 y) at inv
+
+        pub turn-on : (get_or text i 0 ≡ 0 → ⊥)
+            → quoted_from b e (i + 1) (drop (i + 1) text) ≡ quoted_from false e at (drop at text)
+        unfolding quoted_from
+        turn-on y =
+            rw z (rw (z, drop-next text i h, ne_eqb (get_or text i 0) 34 n, ne_eqb (get_or text i 0) 0 y) at inv)
+
+  pub turn-over : length text ≤ i → WalkBroken i ≡ quoted_from false e at (drop at text)
+  unfolding quoted_from
+  turn-over h = go b inv
+    where
+      go : (c : Bool) → quoted_from c e i (drop i text) ≡ quoted_from false e at (drop at text)
+          → WalkBroken i ≡ quoted_from false e at (drop at text)
+      go true q = rw (drop_of_length-le text {i = i} h) at q
+      go false q = rw (drop_of_length-le text {i = i} h) at q
+
+pub ruleset turn_cases = (turn-ends, turn-broken, turn-second, turn-first, turn-zero, turn-on, turn-over)
 
 -- ---- either
 

@@ -1,11 +1,12 @@
 -- The lines of an exported sheet are taken: what a value's field holds may stand there and fits its type.
 use Rattle.std.specs.Prelude.{ℕ, ◌+◌, ◌/◌, ◌%◌, ◌^◌, ◌≤◌, ◌<◌, refl, true, List, [], ◌∷◌, ◌++◌, length}
-use Rattle.std.proofs.Common.{arith, sym, ap, ◌∙◌, append_assoc, append-nil, length-append, lt-ltb, le-leb, eq-eqb, ne_eqb}
+use Rattle.std.proofs.Common.{false, arith, sym, ap, ◌∙◌, append_assoc, append-nil, length-append}
+use Rattle.std.proofs.Common.{lt-ltb, le-leb, eq-eqb, ne_eqb}
 use Rattle.std.proofs.Math.Path.{◌≡◌}
 use Rattle.std.proofs.Math.Option.{Option, none, some}
 use Rattle.octets.specs.Cases.{split}
 use Rattle.octets.specs.Octets.{same-front}
-use Rattle.answers.specs.declared.Walk.TheVariants.{Ends as WalkEnds}
+use Rattle.answers.specs.Walk.{Ends as WalkEnds}
 use Rattle.text.specs.Narrow.{NoZero}
 use Rattle.text.specs.Utf8.{text_of}
 use Rattle.text.specs.Text.{encode_chars, chars-no_zero}
@@ -23,54 +24,57 @@ use Rattle.sheet.specs.Values.{by-type, is_string, narrow-string, text-string, f
 use Rattle.sheet.specs.Values.{number-value, truth-value, narrow-value, text-value}
 use Rattle.sheet.specs.Values.{number-content, truth-content, string-content}
 use Rattle.sheet.specs.One.{free_slots, Exported, SoundChoice}
-use Rattle.scanning.specs.Steps.{spells, filled, takes, holds, string-takes, string-filled}
+use Rattle.scanning.specs.declared.Fill.{Fill}
+use Rattle.scanning.specs.declared.Fill.TheVariants.{Nothing, More}
+use Rattle.scanning.specs.Steps.{spells, is_all, filled, takes, holds, string-takes, string-filled}
 use Rattle.scanning.specs.Scan.{fits}
 use Rattle.scanning.specs.Sheets.{IsLine, IsText, GoodLine, GoodText}
 
 -- ---- what a value's field holds may stand there
 
 -- digits may follow a digit that is no leading zero
-first-digit : (m : ℕ) → m < 10 → 1 ≤ m → (ds : List ℕ) → holds numbers 0 ((48 + m) ∷ ds) ≡ holds numbers 1 ds
+first-digit : (m : ℕ) → m < 10 → 1 ≤ m → (ds : List ℕ) → holds numbers Nothing ((48 + m) ∷ ds) ≡ holds numbers More ds
 unfolding holds takes spells filled
 first-digit m h k ds =
     rw (le-leb 48 (48 + m) (omega arith), le-leb (48 + m) 57 (omega arith), ne_eqb (48 + m) 48 (omega arith))
 
-one-digit : (d : ℕ) → d < 10 → (ds : List ℕ) → holds numbers 1 ((48 + d) ∷ ds) ≡ holds numbers 1 ds
+one-digit : (d : ℕ) → d < 10 → (ds : List ℕ) → holds numbers More ((48 + d) ∷ ds) ≡ holds numbers More ds
 unfolding holds takes spells filled
 one-digit d h ds = rw (le-leb 48 (48 + d) (omega arith), le-leb (48 + d) 57 (omega arith))
 
-digits-hold : (n : ℕ) → 1 ≤ n → (ds : List ℕ) → holds numbers 0 (decimal n ++ ds) ≡ holds numbers 1 ds
+digits-hold : (n : ℕ) → 1 ≤ n → (ds : List ℕ) → holds numbers Nothing (decimal n ++ ds) ≡ holds numbers More ds
 digits-hold n =
-    by_digits (λ m. 1 ≤ m → (ds : List ℕ) → holds numbers 0 (decimal m ++ ds) ≡ holds numbers 1 ds)
+    by_digits (λ m. 1 ≤ m → (ds : List ℕ) → holds numbers Nothing (decimal m ++ ds) ≡ holds numbers More ds)
     (λ m h k ds. rw (decimal-few m h) (first-digit m h k ds))
     (λ m h ih k ds. rw (decimal-more m h, append_assoc (decimal (m / 10)) ((48 + m % 10) ∷ []) ds)
     (ih (omega arith) ((48 + m % 10) ∷ ds) ∙ one-digit (m % 10) (omega arith) ds))
     n
 
-none_left : (code fill : ℕ) → holds code fill [] ≡ true
+none_left : (code : ℕ) (fill : Fill) → holds code fill [] ≡ true
 unfolding holds
 none_left code fill = refl
 
-zero-holds : holds numbers 0 (48 ∷ []) ≡ true
+zero-holds : holds numbers Nothing (48 ∷ []) ≡ true
 unfolding holds takes spells
 zero-holds = refl
 
-number-holds : (n : ℕ) → holds numbers 0 (decimal n) ≡ true
+number-holds : (n : ℕ) → holds numbers Nothing (decimal n) ≡ true
 number-holds n =
-    split 0 n (λ h. ap (holds numbers 0) (sym (append-nil (decimal n))) ∙ digits-hold n h [] ∙ none_left numbers 1)
+    split 0 n (λ h. ap (holds numbers Nothing) (sym (append-nil (decimal n)))
+    ∙ digits-hold n h [] ∙ none_left numbers More)
     (λ h. let z : n ≡ 0 = omega arith in rw (z, decimal-few 0 (omega arith)) zero-holds)
 
-truth-holds : (b : ℕ) → b < 2 → holds truths 0 ((48 + b) ∷ []) ≡ true
+truth-holds : (b : ℕ) → b < 2 → holds truths Nothing ((48 + b) ∷ []) ≡ true
 unfolding holds takes spells
 truth-holds b h = rw (le-leb 48 (48 + b) (omega arith), le-leb (48 + b) 49 (omega arith))
 
-string-holds : (code fill : ℕ) (t : List ℕ) → is_string code ≡ true → (fill ≡ 2 → ⊥) → NoZero t
+string-holds : (code : ℕ) (fill : Fill) (t : List ℕ) → is_string code ≡ true → is_all fill ≡ false → NoZero t
     → holds code fill t ≡ true
 unfolding holds
 string-holds code fill [] s f z = refl
 string-holds code fill (x ∷ t) s f z =
     rw (string-takes code fill x s f z.0, string-filled code fill x s)
-    (string-holds code 1 t s (λ w. omega arith) z.1)
+    (string-holds code More t s refl z.1)
 
 -- a string has no zero before its end
 module _ (v t : List ℕ) (e : v ≡ t ++ (0 ∷ [])) where
@@ -102,19 +106,19 @@ module _ (v t : List ℕ) (e : v ≡ t ++ (0 ∷ [])) where
       go (a_binary u) k l f = absurd (let z : ◌≡◌ {A = ℕ} 0 1 = cc in omega arith)
 
 module _ (code : ℕ) (v : List ℕ) (s : is_string code ≡ true) (a : AString v) where
-  full-holds : NoZero a.octets → holds code 0 (content_of code (some v)) ≡ true
-  full-holds z = ap (holds code 0) (string-content code v s a) ∙ string-holds code 0 a.octets s (λ w. omega arith) z
+  full-holds : NoZero a.octets → holds code Nothing (content_of code (some v)) ≡ true
+  full-holds z = ap (holds code Nothing) (string-content code v s a) ∙ string-holds code Nothing a.octets s refl z
 
 content-holds : (code : ℕ) (e : Option (List ℕ)) → is_exported code ≡ true → SoundEntry (free_slot code) e
-    → holds code 0 (content_of code e) ≡ true
+    → holds code Nothing (content_of code e) ≡ true
 unfolding content_of holds
 content-holds code none h s = refl
 content-holds code (some v) h s =
     by-type code h
     (λ p. let a = number-value v (rw p at s.0) in
-    rw p (ap (holds numbers 0) (number-content v a) ∙ number-holds a.says))
+    rw p (ap (holds numbers Nothing) (number-content v a) ∙ number-holds a.says))
     (λ p. let a = truth-value v (rw p at s.0) in
-    rw p (ap (holds truths 0) (truth-content v a) ∙ truth-holds a.says a.small))
+    rw p (ap (holds truths Nothing) (truth-content v a) ∙ truth-holds a.says a.small))
     (λ p. let i = rw p at s.0 in let a = narrow-value v i in
     rw p (full-holds narrows v narrow-string a (narrow-full v a.octets a.form i)))
     (λ p. let i = rw p at s.0 in let a = text-value v i in

@@ -10,17 +10,18 @@ use mathlib.Core.List.{List, [], ◌∷◌, ◌++◌}
 use Rattle.std.proofs.Math.Dec.{eqb}
 use Rattle.std.proofs.Math.ListN.{length}
 use Rattle.octets.specs.Cases.{split}
-use Rattle.answers.specs.declared.Walk.{Walk}
-use Rattle.answers.specs.declared.Walk.TheVariants.{Broken as WalkBroken}
+use Rattle.answers.specs.Walk.{Walk}
+use Rattle.answers.specs.Walk.{Broken as WalkBroken}
 use Rattle.sheet.specs.Field.{lf}
 use Rattle.sheet.specs.Reading.{content_in}
+use Rattle.scanning.specs.declared.Fill.TheVariants.{Nothing}
 use Rattle.scanning.specs.declared.Stage.{Stage}
 use Rattle.scanning.specs.declared.Stage.TheVariants.{Outside}
 use Rattle.scanning.specs.declared.Step.{Step}
 use Rattle.scanning.specs.declared.Step.TheVariants.{Goes, Ends, Broken}
 use Rattle.scanning.specs.Steps.{step_of}
 use Rattle.scanning.specs.Scan.{anything, held, end_at, scan_from, scan_in}
-use Rattle.scanning.specs.Runs.{ended, step_is, due-is}
+use Rattle.scanning.specs.Runs.{step_is, due-is}
 
 module _ (good : ℕ → List ℕ → Bool) (codes : List ℕ) where
   abbrev from : ℕ → Stage → List ℕ → ℕ → List ℕ → Walk
@@ -106,33 +107,35 @@ module _ (good : ℕ → List ℕ → Bool) (codes : List ℕ) where
   faults (x ∷ xs) j s f i p q =
       split j (length codes)
       (λ h. inside h (step_of (get_or codes j 0) (end_at codes j) s x) refl
-      (λ t z. faults xs j t (f ++ (x ∷ [])) (i + 1) p z) (λ z. faults xs (j + 1) (Outside 0) [] (i + 1) p z))
-      (λ h. due h (eqb x lf) refl (λ z. faults xs 0 (Outside 0) [] (i + 1) p z))
+      (λ t z. faults xs j t (f ++ (x ∷ [])) (i + 1) p z) (λ z. faults xs (j + 1) (Outside Nothing) [] (i + 1) p z))
+      (λ h. due h (eqb x lf) refl (λ z. faults xs 0 (Outside Nothing) [] (i + 1) p z))
     where
       line : (any : ℕ → List ℕ → Bool) → length codes ≤ j → (b : Bool) → eqb x lf ≡ b → (ys : List ℕ)
           → scan_from any codes j s f i (x ∷ ys)
-          ≡ cond b (scan_from any codes 0 (Outside 0) [] (i + 1) ys) (WalkBroken i)
+          ≡ cond b (scan_from any codes 0 (Outside Nothing) [] (i + 1) ys) (WalkBroken i)
       line any h b z ys = due-is any codes j s f i x h ys ∙ rw z
 
       due : length codes ≤ j → (b : Bool) → eqb x lf ≡ b
-          → (from 0 (Outside 0) [] (i + 1) xs ≡ WalkBroken p → Either 0 (Outside 0) [] (i + 1) xs p)
+          → (from 0 (Outside Nothing) [] (i + 1) xs ≡ WalkBroken p → Either 0 (Outside Nothing) [] (i + 1) xs p)
           → Either j s f i (x ∷ xs) p
       due h true z ih =
-          onward j 0 s (Outside 0) f [] i x xs p (line (held good) h true z) (line anything h true z)
+          onward j 0 s (Outside Nothing) f [] i x xs p (line (held good) h true z) (line anything h true z)
           (ih (sym (line (held good) h true z xs) ∙ q))
       due h false z ih = inl (line anything h false z xs ∙ sym (line (held good) h false z xs) ∙ q)
 
       after : j < length codes → step_of (get_or codes j 0) (end_at codes j) s x ≡ Ends → (b : Bool)
           → good (get_or codes j 0) (content_in f) ≡ b → (ys : List ℕ)
-          → from j s f i (x ∷ ys) ≡ cond b (from (j + 1) (Outside 0) [] (i + 1) ys) (WalkBroken (i - length f))
+          → from j s f i (x ∷ ys) ≡ cond b (from (j + 1) (Outside Nothing) [] (i + 1) ys) (WalkBroken (i - length f))
       after h z b y ys = step_is (held good) codes j s f i x Ends h z ys ∙ rw y
 
       ends : j < length codes → step_of (get_or codes j 0) (end_at codes j) s x ≡ Ends → (b : Bool)
           → good (get_or codes j 0) (content_in f) ≡ b
-          → (from (j + 1) (Outside 0) [] (i + 1) xs ≡ WalkBroken p → Either (j + 1) (Outside 0) [] (i + 1) xs p)
+          → (from (j + 1) (Outside Nothing) [] (i + 1) xs ≡ WalkBroken p
+          → Either (j + 1) (Outside Nothing) [] (i + 1) xs p)
           → Either j s f i (x ∷ xs) p
       ends h z true y jh =
-          onward j (j + 1) s (Outside 0) f [] i x xs p (after h z true y) (step_is anything codes j s f i x Ends h z)
+          onward j (j + 1) s (Outside Nothing) f [] i x xs p (after h z true y)
+          (step_is anything codes j s f i x Ends h z)
           (jh (sym (after h z true y xs) ∙ q))
       ends h z false y jh =
           let a : WalkBroken (i - length f) ≡ WalkBroken p = sym (after h z false y xs) ∙ q in
@@ -141,7 +144,8 @@ module _ (good : ℕ → List ℕ → Bool) (codes : List ℕ) where
 
       inside : j < length codes → (t : Step) → step_of (get_or codes j 0) (end_at codes j) s x ≡ t
           → ((u : Stage) → from j u (f ++ (x ∷ [])) (i + 1) xs ≡ WalkBroken p → Either j u (f ++ (x ∷ [])) (i + 1) xs p)
-          → (from (j + 1) (Outside 0) [] (i + 1) xs ≡ WalkBroken p → Either (j + 1) (Outside 0) [] (i + 1) xs p)
+          → (from (j + 1) (Outside Nothing) [] (i + 1) xs ≡ WalkBroken p
+          → Either (j + 1) (Outside Nothing) [] (i + 1) xs p)
           → Either j s f i (x ∷ xs) p
       inside h (Goes u) z ih jh =
           let e = step_is (held good) codes j s f i x (Goes u) h z in
@@ -155,6 +159,6 @@ module _ (good : ℕ → List ℕ → Bool) (codes : List ℕ) where
   -- a refused text: its place is that of the text with sizes and UTF-8 left aside, or the start of a field that is no
   -- value
   pub refused-for : (xs : List ℕ) (p : ℕ) → scan_in (held good) codes xs ≡ WalkBroken p
-      → (scan_in anything codes xs ≡ WalkBroken p) ⊎ Unfit 0 (Outside 0) [] 0 xs p
+      → (scan_in anything codes xs ≡ WalkBroken p) ⊎ Unfit 0 (Outside Nothing) [] 0 xs p
   unfolding Either
-  refused-for xs p q = faults xs 0 (Outside 0) [] 0 p q
+  refused-for xs p q = faults xs 0 (Outside Nothing) [] 0 p q

@@ -6,16 +6,8 @@ ghost use Rattle.scanning.specs.Inner.{inner_of};
 
 use sheet::{NUMBERS, QUOTE, TEXTS};
 
-fn digit_of(x: u8) -> u64
-    ensures { (result ≡ x - 48) × (result < 256) }
-{
-    if x < 48 {
-        return 0;
-    }
-    (x - 48) as u64
-}
-
 // Whether the number that digits say is at most 4,294,967,295. Eight octets, whichever they are, say less.
+#[tactic(auto, using(crate::specs::FitCases::small_cases))]
 fn is_small(s: &[u8]) -> bool
     ensures { result ≡ ltb (number_in s.now) 4294967296 }
 {
@@ -23,13 +15,11 @@ fn is_small(s: &[u8]) -> bool
         return true;
     }
     let mut a: u64 = 0;
-    let mut i = 0;
-    while i < s.len() {
-        a = a * 10 + digit_of(s[i]);
+    for x in s {
+        a = a * 10 + u64::from(x.saturating_sub(b'0'));
         if 4294967295 < a {
             return false;
         }
-        i += 1;
     }
     true
 }

@@ -8,10 +8,11 @@ mod strings;
 mod tags;
 
 ghost use Rattle.std.specs.Prelude.{◌≡◌, cond, ◌+◌, ◌^◌, ◌≤◌, ◌<◌, ltb, length, drop};
+ghost use Rattle.scanning.specs.declared.Fill.TheVariants.{Nothing};
 ghost use Rattle.scanning.specs.declared.Stage.TheVariants.{Outside};
 ghost use Rattle.scanning.specs.Steps.{field_from};
 ghost use Rattle.scanning.specs.Scan.{fits, held, scan_in};
-ghost use Rattle.scanning.specs.First.{head_in, fault_at, first_line_of};
+ghost use Rattle.scanning.specs.First.{head_in, first_line_of};
 ghost use Rattle.scanning.specs.FieldBack.{AnEnd};
 ghost use Rattle.scanning.specs.ScanCases.{field_passed, passed_of};
 
@@ -22,13 +23,21 @@ use sheet::{COMMA, CR, LF, NUMBERS, TRUTHS};
 use strings::walk_string;
 use tags::next_of;
 
+// What has been read of what a field holds: nothing, something that more may follow, or something that nothing may
+// follow.
+#[derive(Clone, Copy, PartialEq, Eq)]
+pub enum Fill {
+    Nothing,
+    More,
+    All,
+}
+
 // Where the scan of a field stands: outside quotes or inside them, with what has been read, or behind a quote that
-// closes or is the first of two. What has been read is 0 nothing, 1 something that more may follow, 2 something that
-// nothing may follow.
+// closes or is the first of two.
 #[derive(Clone, Copy)]
 pub enum Stage {
-    Outside(u8),
-    Inside(u8),
+    Outside(Fill),
+    Inside(Fill),
     Behind,
 }
 
@@ -40,12 +49,8 @@ pub enum Step {
     Broken,
 }
 
-// What follows a field or a line's end: the scan goes on with a field of the line at a place, or breaks.
-#[derive(Clone, Copy)]
-pub enum Passed {
-    On(usize, usize),
-    Broken(usize),
-}
+// What follows a field or a line's end: the scan goes on with a field of the line at a place, or the octet at fault.
+type Passed = Result<(usize, usize), usize>;
 
 // Where the scan of the first line stands: in a tag, in quotes or not, with so many digits read; behind the quote that
 // closes; or before the LF.
@@ -66,13 +71,12 @@ pub enum Next {
     Stop,
 }
 
-// The tags of a first line, zeros behind the last, and where the line ends; or no tag and the place of the octet at
-// fault.
+// The tags of a first line, zeros behind the last, and where the line ends.
 #[derive(Clone, Copy)]
 pub struct FirstLine {
     pub tags: [u32; 16],
     pub count: usize,
-    pub walk: Walk,
+    pub end: usize,
 }
 
 // What ends field j of n.
@@ -80,16 +84,13 @@ fn end_of(j: usize, n: usize) -> u8
     requires { j < n }
     ensures { (result ≡ cond (ltb (j + 1) n) 44 13) × AnEnd result }
 {
-    if j + 1 < n {
-        return COMMA;
-    }
-    CR
+    if j + 1 < n { COMMA } else { CR }
 }
 
 // Where the field from `at` ends, of the type `code` and ended by the octet `end`.
 fn walk_field(text: &[u8], at: usize, code: u32, end: u8) -> Walk
     requires { (at ≤ length text.now) × AnEnd end }
-    ensures { result ≡ field_from code end (Outside 0) at (drop at text.now) }
+    ensures { result ≡ field_from code end (Outside Nothing) at (drop at text.now) }
 {
     if code == NUMBERS {
         return walk_number(text, at, end);
@@ -105,15 +106,11 @@ fn pass_field(text: &[u8], code: u32, end: u8, column: usize, at: usize) -> Pass
     requires { (at ≤ length text.now) × AnEnd end × (column + 1 < 2 ^ 64) }
     ensures { result ≡ field_passed code end column at text.now }
 {
-    match walk_field(text, at, code, end) {
-        Walk::Broken(p) => Passed::Broken(p),
-        Walk::Ends(v) => {
-            if fits_field(code, &text[at..v]) {
-                return Passed::On(column + 1, v + 1);
-            }
-            Passed::Broken(at)
-        }
+    let v = walk_field(text, at, code, end)?;
+    if !fits_field(code, &text[at..v]) {
+        return Err(at);
     }
+    Ok((column + 1, v + 1))
 }
 
 // A field with its end, or the LF of a line, `column` fields of which are done.
@@ -121,14 +118,14 @@ fn pass(text: &[u8], codes: &[u32], column: usize, at: usize) -> Passed
     requires { at < length text.now }
     ensures { result ≡ passed_of codes.now column at text.now }
 {
-    if codes.len() <= column {
-        if text[at] == LF {
-            return Passed::On(0, at + 1);
-        }
-        return Passed::Broken(at);
+    if column < codes.len() {
+        let end = end_of(column, codes.len());
+        return pass_field(text, codes[column], end, column, at);
     }
-    let end = end_of(column, codes.len());
-    pass_field(text, codes[column], end, column, at)
+    if text[at] == LF {
+        return Ok((0, at + 1));
+    }
+    Err(at)
 }
 
 // Whether the text is lines of fields of these types, or the place of the first fault.
@@ -137,62 +134,46 @@ pub fn scan(text: &[u8], codes: &[u32]) -> Walk
 {
     let mut column = 0;
     let mut at = 0;
+    // No `for`: each turn passes a whole field, and the next one begins where that one ended.
     while at < text.len() {
-        match pass(text, codes, column, at) {
-            Passed::Broken(p) => return Walk::Broken(p),
-            Passed::On(next, k) => {
-                column = next;
-                at = k;
-            }
-        }
+        (column, at) = pass(text, codes, column, at)?;
     }
     if column == 0 {
-        return Walk::Ends(at);
+        return Ok(at);
     }
-    Walk::Broken(at)
+    Err(at)
 }
 
-fn at_fault(p: usize) -> FirstLine
-    ensures { result ≡ fault_at p }
-{
-    FirstLine {
-        tags: [0; 16],
-        count: 0,
-        walk: Walk::Broken(p),
-    }
-}
-
-pub fn read_first_line(text: &[u8]) -> FirstLine
+// The first line, or the place of the octet at fault.
+#[tactic(auto, using(crate::specs::FirstCases::line_cases))]
+pub fn read_first_line(text: &[u8]) -> Result<FirstLine, usize>
     ensures { result ≡ first_line_of (head_in text.now) }
 {
     let mut stand = Stand::InTag(false, 0);
     let mut value: u32 = 0;
     let mut count = 0;
     let mut tags: [u32; 16] = [0; 16];
-    let mut at = 0;
-    while at < text.len() {
-        match next_of(stand, value, count, text[at]) {
-            Next::Stop => return at_fault(at),
+    for (at, x) in text.iter().enumerate() {
+        match next_of(stand, value, count, *x) {
+            Next::Stop => return Err(at),
             Next::Done => {
-                return FirstLine {
+                return Ok(FirstLine {
                     tags,
                     count,
-                    walk: Walk::Ends(at + 1),
-                };
+                    end: at + 1,
+                });
             }
             Next::Goes(next, says) => {
                 stand = next;
                 value = says;
-                at += 1;
             }
             Next::Tag(next) => {
                 tags[count] = value;
                 count += 1;
                 stand = next;
                 value = 0;
-                at += 1;
             }
         }
     }
-    at_fault(at)
+    Err(text.len())
 }

@@ -5,92 +5,73 @@ ghost use Rattle.scanning.specs.First.{digit_in, next_end, next_quote, next_tag,
 use crate::{Next, Stand};
 use sheet::{COMMA, CR, LF, QUOTE};
 
-// What a hex digit says; 16 for an octet that is none.
+// What a hex digit says; 16 for an octet that is none. No `to_digit`, which takes small letters too.
+#[tactic(auto, unfolding(crate::specs::First::digit_in))]
 fn digit_in(x: u8) -> u32
     ensures { (result ≡ digit_in x) × (result < 17) }
 {
-    if x < 48 {
-        return 16;
+    match x {
+        b'0'..=b'9' => (x - b'0') as u32,
+        b'A'..=b'F' => (x - 55) as u32,
+        _ => 16,
     }
-    if x <= 57 {
-        return (x - 48) as u32;
-    }
-    if x < 65 {
-        return 16;
-    }
-    if x <= 70 {
-        return (x - 55) as u32;
-    }
-    16
 }
 
 // A tag has ended, `count` having gone before.
+#[tactic(auto, using(crate::specs::FirstCases::end_cases))]
 fn end_tag(count: usize, x: u8) -> Next
     ensures { result ≡ next_end count x }
 {
     if x == CR {
-        let stand = Stand::LineEnd;
-        return Next::Tag(stand);
+        Next::Tag(Stand::LineEnd)
+    } else if x == COMMA && count < 15 {
+        Next::Tag(Stand::InTag(false, 0))
+    } else {
+        Next::Stop
     }
-    if x == COMMA {
-        if count < 15 {
-            let stand = Stand::InTag(false, 0);
-            return Next::Tag(stand);
-        }
-        return Next::Stop;
-    }
-    Next::Stop
 }
 
 // No digit: the quote that opens may stand before the first one.
+#[tactic(auto, using(crate::specs::FirstCases::quote_cases))]
 fn open_quote(quoted: bool, digits: u8, x: u8) -> Next
     ensures { result ≡ next_quote quoted digits x }
 {
-    if x == QUOTE {
-        if quoted {
-            return Next::Stop;
-        }
-        if digits == 0 {
-            let stand = Stand::InTag(true, 0);
-            return Next::Goes(stand, 0);
-        }
-        return Next::Stop;
+    if x == QUOTE && !quoted && digits == 0 {
+        Next::Goes(Stand::InTag(true, 0), 0)
+    } else {
+        Next::Stop
     }
-    Next::Stop
 }
 
+#[tactic(auto, using(crate::specs::FirstCases::tag_cases))]
 fn in_tag(quoted: bool, digits: u8, value: u32, count: usize, x: u8) -> Next
     ensures { result ≡ next_tag quoted digits value count x }
 {
     if digits < 8 {
         let d = digit_in(x);
         if d < 16 {
-            let stand = Stand::InTag(quoted, digits + 1);
-            return Next::Goes(stand, value % 268435456 * 16 + d);
+            return Next::Goes(Stand::InTag(quoted, digits + 1), value % 268435456 * 16 + d);
         }
         return open_quote(quoted, digits, x);
     }
-    if quoted {
-        if x == QUOTE {
-            let stand = Stand::Behind;
-            return Next::Goes(stand, value);
-        }
-        return Next::Stop;
+    if !quoted {
+        return end_tag(count, x);
     }
-    end_tag(count, x)
+    if x == QUOTE {
+        Next::Goes(Stand::Behind, value)
+    } else {
+        Next::Stop
+    }
 }
 
+#[tactic(auto, using(crate::specs::FirstCases::next_cases))]
 pub fn next_of(stand: Stand, value: u32, count: usize, x: u8) -> Next
     ensures { result ≡ next_of stand value count x }
 {
     match stand {
         Stand::InTag(quoted, digits) => in_tag(quoted, digits, value, count, x),
         Stand::Behind => end_tag(count, x),
-        Stand::LineEnd => {
-            if x == LF {
-                return Next::Done;
-            }
-            Next::Stop
-        }
+        Stand::LineEnd if x == LF => Next::Done,
+        Stand::LineEnd => Next::Stop,
     }
 }

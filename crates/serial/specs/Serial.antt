@@ -1,7 +1,8 @@
 -- The serial (2.9.1, and document 01 where that section is silent): bit by bit, with the reflected generator of ISO/IEC 8802-3. Assumes nothing.
 use Rattle.std.specs.Prelude.{◌≡◌, refl, List, [], ◌∷◌, ◌++◌, ℕ, suc, ◌+◌, ◌*◌, ◌/◌, ◌%◌, ◌^◌, ◌<◌, ◌≤◌, length, get_or, drop}
-use Rattle.std.proofs.Common.{add-one, arith, drop_of_length-le, drop-cons}
+use Rattle.std.proofs.Common.{◌∙◌, add-one, arith, drop_of_length-le, drop-cons}
 use Rattle.std.specs.Int.Bits.{bit_xor}
+use Rattle.std.specs.List.{fold}
 use Rattle.std.proofs.lemmas.Nat.{xor_lt}
 use Rattle.octets.specs.Octets.{Octets}
 
@@ -54,3 +55,11 @@ module _ (x c : ℕ) (s : List ℕ) (i : ℕ) (inv : serial_from c (drop i s) �
   serial-end h = rw (drop_of_length-le s {i = i} h) at inv
 
 pub ruleset serials = (serial-step, serial-end)
+
+-- the same as one fold
+pub serial_fold : {r : ℕ} (c : ℕ) (s : List ℕ) → r ≡ fold octet_step c s → r ≡ serial_from c s
+serial_fold c s e = e ∙ go c s
+  where
+    go : (d : ℕ) (t : List ℕ) → fold octet_step d t ≡ serial_from d t
+    go d [] = refl
+    go d (b ∷ t) = go (octet_step d b) t

@@ -9,7 +9,7 @@ use Rattle.std.proofs.Math.Numerals.{towards_suc}
 use Rattle.octets.specs.Octets.{Octets, octets-drop, octets-take, take-octets, rest_of}
 use Rattle.octets.specs.Word.{val_of}
 use Rattle.std.proofs.Math.Pow.{split}
-use Rattle.std.specs.Int.{w8, w32, w64}
+use Rattle.std.specs.Int.{w8, w32, w64, from_le_bytes}
 use Rattle.std.specs.Int.Bits.{bit_and, bit_xor, xor_zero_r, xor_shifted}
 use Rattle.std.proofs.lemmas.Nat.{and_mask, xor_shr, xor_comm, xor_lt}
 use Rattle.serial.specs.Serial.{bit_step, octet_step, serial_from}
@@ -357,3 +357,33 @@ fold_end xs i n₁ n₂ n₃ n₄ n₅ a b c d w m e h ea eb ec ed ew em ee er =
     er ∙ ap (serial_from e) (rest_of xs (i + 40)) ∙ tail-is xs i n₁ n₂ n₃ n₄ n₅ a b c d e h ea eb ec ed (rw (em, ew) at ee)
 
 pub ruleset folds = (fold_start, fold_step, fold_end)
+
+-- ---- the same of what is left, whose front is taken off word by word
+
+le-eight : (a b c d e f g h : ℕ) → from_le_bytes w64 (a ∷ b ∷ c ∷ d ∷ e ∷ f ∷ g ∷ h ∷ []) ≡ val_of (a ∷ b ∷ c ∷ d ∷ e ∷ f ∷ g ∷ h ∷ [])
+le-eight a b c d e f g h = omega arith
+
+pub front_is : {r : ℕ} (xs : List ℕ) → ((j : ℕ) → Fits w8 (get_or xs j 0)) → 8 ≤ length xs
+    → r ≡ from_le_bytes w64 (get_or xs 0 0 ∷ get_or xs 1 0 ∷ get_or xs 2 0 ∷ get_or xs 3 0 ∷ get_or xs 4 0 ∷ get_or xs 5 0 ∷ get_or xs 6 0 ∷ get_or xs 7 0 ∷ [])
+    → r ≡ wide (take 8 xs)
+front_is xs o h e = e ∙ le-eight _ _ _ _ _ _ _ _ ∙ ap val_of (sym (take-octets 8 xs 0 h)) ∙ sym (wide_is (take 8 xs) (octets-take 8 xs (λ j. (o j).fits)))
+
+pub rest_step : (x w a : ℕ) (xs : List ℕ) (p q r s t : ℕ) → serial_with xs (pending p q r s t) ≡ x → 48 ≤ length xs → w ≡ wide (take 8 xs) → a ≡ bit_xor w p → Fits w64 a →
+    serial_with (take (length xs - 8) (drop 8 xs)) (pending q (bit_xor (bit_xor r (a * 2 ^ 17 % 2 ^ 64)) (a * 2 ^ 55 % 2 ^ 64)) (bit_xor (bit_xor (bit_xor s (a / 2 ^ 47)) (a / 2 ^ 9)) (a * 2 ^ 19 % 2 ^ 64)) (bit_xor (bit_xor t (a / 2 ^ 45)) (a * 2 ^ 44 % 2 ^ 64)) (a / 2 ^ 20))
+    ≡ x
+rest_step x w a xs p q r s t g h f m o =
+    let k : a ≡ bit_xor (wide (take 8 xs)) p = m ∙ ap (λ (z : ℕ). bit_xor z p) f in
+    ap (λ (l : List ℕ). serial_with l (pending q (bit_xor (bit_xor r (a * 2 ^ 17 % 2 ^ 64)) (a * 2 ^ 55 % 2 ^ 64)) (bit_xor (bit_xor (bit_xor s (a / 2 ^ 47)) (a / 2 ^ 9)) (a * 2 ^ 19 % 2 ^ 64)) (bit_xor (bit_xor t (a / 2 ^ 45)) (a * 2 ^ 44 % 2 ^ 64)) (a / 2 ^ 20))) (rest_of xs 8)
+    ∙ turn_at xs 0 p q r s t a h k o.fits ∙ g
+
+-- the word at i goes out of what is left from there on
+abbrev pub next_in : List ℕ → ℕ → ℕ → ℕ → ℕ
+next_in xs i x y = bit_xor (steps 64 (bit_xor (wide (take 8 (take (length xs - i) (drop i xs)))) x)) y
+
+pub rest_end : {r : ℕ} (xs : List ℕ) (n₁ n₂ n₃ n₄ n₅ a b c d w m e : ℕ) → 40 ≤ length xs → a ≡ bit_xor (steps 64 (bit_xor (wide (take 8 xs)) n₁)) n₂ → b ≡ next_in xs 8 a n₃ → c ≡ next_in xs 16 b n₄
+    → d ≡ next_in xs 24 c n₅ → w ≡ wide (take 8 (take (length xs - 32) (drop 32 xs))) → m ≡ bit_xor w d → e ≡ steps 64 m → r ≡ serial_from e (take (length xs - 40) (drop 40 xs))
+    → r ≡ serial_with xs (pending n₁ n₂ n₃ n₄ n₅)
+rest_end xs n₁ n₂ n₃ n₄ n₅ a b c d w m e h ea eb ec ed ew em ee er =
+    er ∙ ap (serial_from e) (rest_of xs 40)
+    ∙ tail-is xs 0 n₁ n₂ n₃ n₄ n₅ a b c d e h ea (rw (rest_of xs 8) at eb) (rw (rest_of xs 16) at ec) (rw (rest_of xs 24) at ed)
+    (ee ∙ ap (steps 64) (em ∙ ap (λ (z : ℕ). bit_xor z d) (ew ∙ ap (λ (l : List ℕ). wide (take 8 l)) (rest_of xs 32))))

@@ -31,13 +31,7 @@ fn octet_step(c: u32, b: u8) -> u32
 fn octets_from(c: u32, s: &[u8]) -> u32
     ensures { result ≡ serial_from c s.now }
 {
-    let mut r = c;
-    let mut i = 0;
-    while i < s.len() {
-        r = octet_step(r, s[i]);
-        i += 1;
-    }
-    r
+    s.iter().fold(c, |r, b| octet_step(r, *b))
 }
 
 // The serial goes on from `c` over all of `s`.

@@ -1,6 +1,7 @@
 -- The ways of the code that tells marks and types, on plain values.
-use Rattle.std.specs.Prelude.{ℕ, ◌+◌, ◌≤◌, ◌<◌, ◌%◌, ◌≡◌, Bool, true, false, not, List, eqb, length, drop, get_or}
-use Rattle.std.proofs.Common.{sym, drop_of_length-le}
+use Rattle.std.specs.Prelude.{ℕ, ◌+◌, ◌≤◌, ◌<◌, ◌%◌, ◌≡◌, refl, Bool, true, false, not, cond, List, [], ◌∷◌, eqb, length, drop, get_or}
+use Rattle.std.specs.List.{list_all}
+use Rattle.std.proofs.Common.{sym, ap, ◌∙◌, ◌&&◌, drop_of_length-le}
 use borrow.Author.Tests.{ne_eqb, not-true, not-false}
 use Rattle.octets.specs.Octets.{drop-next}
 use Rattle.sheet.specs.Field.{is_mark, is_exported, all_exported}
@@ -60,3 +61,13 @@ module _ (tags : List ℕ) (i : ℕ) (inv : all_exported (drop i tags) ≡ all_e
   types-all h = rw (drop_of_length-le tags {i = i} h) at inv
 
 pub ruleset types_cases = (types-next, types-not, types-all)
+
+-- each tag by the same test
+pub types_each : (tags : List ℕ) → all_exported tags ≡ list_all (λ t. is_exported (t % 65536)) tags
+unfolding all_exported
+types_each [] = refl
+types_each (t ∷ tags) = go (is_exported (t % 65536)) ∙ ap (λ b. is_exported (t % 65536) && b) (types_each tags)
+  where
+    go : (b : Bool) → cond b (all_exported tags) false ≡ (b && all_exported tags)
+    go true = refl
+    go false = refl

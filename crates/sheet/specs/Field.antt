@@ -2,8 +2,8 @@
 use Rattle.std.specs.Prelude.{ℕ, ◌-◌, ◌%◌, Bool, true, false, cond, List, [], ◌∷◌, ◌++◌, eqb, length, take}
 use Rattle.std.proofs.Math.Option.{Option, none, some}
 use Rattle.octets.specs.Octets.{octet_at}
-use Rattle.whole.specs.declared.Number.{Number}
-use Rattle.whole.specs.declared.Number.TheVariants.{Is, Broken}
+use Rattle.whole.specs.Number.{Number}
+use Rattle.whole.specs.Number.{Some, Broken}
 use Rattle.whole.specs.Number.{number_of}
 use Rattle.table.specs.Repeat.{memb}
 use Rattle.entry.specs.Present.{Row}
@@ -81,7 +81,7 @@ spelt t = cond (marked t) (quoted t) t
 -- ---- the text of a value, by the code of its type
 
 abbrev pub whole_by : Number → ℕ
-whole_by (Is n w) = n
+whole_by (Some (n, w)) = n
 whole_by Broken = 0
 
 -- the number that a value says

@@ -6,7 +6,7 @@ use Rattle.std.proofs.Math.Bool.{true, false, cond}
 use Rattle.std.proofs.Math.Option.{some}
 use Rattle.octets.specs.Cases.{taken}
 use Rattle.octets.specs.Octets.{octet_at}
-use Rattle.whole.specs.declared.Number.TheVariants.{Is}
+use Rattle.whole.specs.Number.{Some}
 use Rattle.whole.specs.Number.{number_of as whole_of, encode_number}
 use Rattle.whole.specs.Laws.{number-back}
 use Rattle.text.specs.Text.{encode_chars, chars-some}
@@ -104,7 +104,7 @@ text-value v h = go h.item h.kind h.valid h.form
 pub number-content : (v : List ℕ) (a : ANumber v) → content_of numbers (some v) ≡ decimal a.says
 unfolding content_of
 number-content v a =
-    let b : whole_of v ≡ Is a.says (length (encode_number a.says)) =
+    let b : whole_of v ≡ Some (a.says, length (encode_number a.says)) =
     ap whole_of (a.form ∙ sym (append-nil (encode_number a.says))) ∙ number-back a.says a.small [] in
     rw b
 

@@ -10,20 +10,9 @@ pub const CR: u8 = 13;
 
 pub const LF: u8 = 10;
 
+#[tactic(auto, unfolding(crate::specs::Field::is_mark))]
 pub fn is_mark(x: u8) -> bool
     ensures { result ≡ is_mark x }
 {
-    if COMMA < x {
-        return false;
-    }
-    if x == COMMA {
-        return true;
-    }
-    if x == QUOTE {
-        return true;
-    }
-    if x == CR {
-        return true;
-    }
-    x == LF
+    matches!(x, COMMA | QUOTE | CR | LF)
 }

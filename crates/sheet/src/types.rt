@@ -12,31 +12,16 @@ const NARROWS: u32 = 0x001E;
 
 pub const TEXTS: u32 = 0x001F;
 
+#[tactic(auto, unfolding(crate::specs::Field::is_exported))]
 fn is_exported(code: u32) -> bool
     ensures { result ≡ is_exported code }
 {
-    if code == NUMBERS {
-        return true;
-    }
-    if code == TRUTHS {
-        return true;
-    }
-    if code == NARROWS {
-        return true;
-    }
-    code == TEXTS
+    matches!(code, NUMBERS | TRUTHS | NARROWS | TEXTS)
 }
 
 // Whether the type of each tag can be exported.
 pub fn all_exported(tags: &[u32]) -> bool
     ensures { result ≡ all_exported tags.now }
 {
-    let mut i = 0;
-    while i < tags.len() {
-        if !is_exported(tags[i] % 65536) {
-            return false;
-        }
-        i += 1;
-    }
-    true
+    tags.iter().all(|tag| is_exported(*tag % 65536))
 }

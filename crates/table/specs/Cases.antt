@@ -1,9 +1,9 @@
 -- The ways of the code that reads a table, on plain values.
 use Prim.Native.Nat.{ℕ, zero, suc, ◌+◌, ◌-◌, ◌*◌, ◌%◌, ◌<◌, ◌≤◌}
 use native.Mathlib.Omega.{arith}
-use Rattle.std.proofs.Common.{add-one, ◌∙◌, length-take-le}
+use Rattle.std.proofs.Common.{add-one, ◌∙◌, length-take}
 use Rattle.std.proofs.Math.Nat.{sub-zero, add-zero}
-use Rattle.std.specs.Prelude.{◌≡◌, leb, drop, set}
+use Rattle.std.specs.Prelude.{Ok, Err, ◌≡◌, leb, drop, set}
 use Rattle.std.proofs.Math.Path.{refl, sym, ap}
 use mathlib.Core.List.{List, [], ◌∷◌, ◌++◌}
 use Rattle.std.specs.Int.Bits.{bit_and}
@@ -13,20 +13,20 @@ use Rattle.std.proofs.Math.Seq.{drop-drop, take_at}
 use borrow.Author.Tests.{le-leb, lt-leb, eq-eqb, ne_eqb, leb-true}
 use Rattle.octets.specs.Word.{word_of}
 use Rattle.answers.specs.Numbers.{cut_short, unknown_type, repeated_tag, many_columns, most_columns}
-use Rattle.answers.specs.declared.Verdict.{Verdict}
-use Rattle.answers.specs.declared.Verdict.TheVariants.{Clear as clear, Refused}
+use Rattle.answers.specs.Verdict.{Answer, Verdict, answered, refusal}
+use Rattle.answers.specs.Verdict.{clear, Refused}
 use Rattle.answers.specs.Verdict.{refused, ◌then◌, need, apart, unmet}
 use Rattle.answers.specs.declared.Refusal.{Refusal}
 use Rattle.value.specs.Types.{number_of, is_type, unknown_form}
 use Rattle.table.specs.declared.Columns.{Columns}
-use Rattle.table.specs.declared.Table.{Table}
-use Rattle.table.specs.declared.Found.{Found}
-use Rattle.table.specs.declared.Found.TheVariants.{At, Nothing}
+use Rattle.table.specs.declared.Rows.{Rows}
+use Rattle.table.specs.Found.{Found}
+use Rattle.table.specs.Found.{At, Nothing}
 use Rattle.table.specs.Repeat.{repeat-is, repeat_of, found_at, repeat-below}
 use Rattle.table.specs.Table.{Column, row_at, columns_at, table_at, columns_of, table_of}
-use Rattle.answers.specs.Padded.{padded, padded-long, padded-more}
-use Rattle.table.specs.Columns.{tags_of, bits_of, forms_of, columns_in, no_columns, kept, no_table, judged_to, settled}
-use Rattle.table.specs.Columns.{table_in, plain_at, one_more, read_to, filled_to, agree, read_all, read-most}
+use Rattle.answers.specs.Padded.{padded, padded-more}
+use Rattle.table.specs.Columns.{tags_of, bits_of, forms_of, columns_in, settled}
+use Rattle.table.specs.Columns.{table_in, plain_at, one_more, read_to, filled_to, agree, read_all}
 use Rattle.table.specs.Columns.{columns-long, column_at, columns-snoc, tags-snoc, bits-snoc, forms-snoc}
 use Rattle.table.specs.Columns.{tags-long, bits-long, forms-long}
 
@@ -77,10 +77,7 @@ row-whole at xs e =
     let c₂ = apart (need (leb 8 (length xs)) cut_short (at + 4)) _ c₁.1 in
     leb-true 8 (length xs) (unmet _ cut_short (at + 4) c₂.0)
 
--- ---- no_table and fill
-
-pub no-table-is : (v : Verdict) (c : Columns) → c ≡ no_columns → ◌≡◌ {A = Table} (record { verdict = v; columns = c }) (no_table v)
-no-table-is v c e = rw e
+-- ---- fill
 
 plain_step : (m at : ℕ) (xs : List ℕ) → 0 < m → plain_at m at xs ≡ (row_at at xs then plain_at (m - 1) (at + 8) (drop 8 xs))
 unfolding plain_at
@@ -98,18 +95,23 @@ fill_start n at b = rw (sub-zero n, add-zero at)
 pub read-start : (n at : ℕ) (b : List ℕ) → 0 + read_to (n - 0) (at + 0) (drop (at + 0) b) ≡ read_to n at (drop at b)
 read-start n at b = rw (sub-zero n, add-zero at) (omega arith)
 
+same-columns : (C : Columns) {n : ℕ} {T F K : List ℕ} → C.count ≡ n → C.tags ≡ T → C.flags ≡ F → C.forms ≡ K
+    → C ≡ record { count = n; tags = T; flags = F; forms = K }
+same-columns C e f g h = rw (← e, ← f, ← g, ← h)
+
 module _ (b : List ℕ) (n at i : ℕ) (ip : plain_at (n - i) (at + 8 * i) (drop (at + 8 * i) b) ≡ plain_at n at (drop at b))
     (ir : i + read_to (n - i) (at + 8 * i) (drop (at + 8 * i) b) ≡ read_to n at (drop at b)) where
   module _ (h : i < n) (v : Verdict) (e : v ≡ row_at (at + 8 * i) (drop (at + 8 * i) b)) where
-    pub fill_stop : (r : Refusal) → v ≡ Refused r → (T F K : List ℕ)
-        → T ≡ padded (tags_of (columns_of i (drop at b))) → F ≡ padded (bits_of (columns_of i (drop at b))) → K ≡ padded (forms_of (columns_of i (drop at b)))
-        → ◌≡◌ {A = Table} (record { verdict = v; columns = record { count = i; tags = T; flags = F; forms = K } }) (filled_to n at (drop at b))
+    pub fill_stop : (r : Refusal) → v ≡ Refused r → (C : Columns) → C.count ≡ i
+        → C.tags ≡ padded (tags_of (columns_of i (drop at b))) → C.flags ≡ padded (bits_of (columns_of i (drop at b)))
+        → C.forms ≡ padded (forms_of (columns_of i (drop at b)))
+        → ◌≡◌ {A = Rows} (record { verdict = v; columns = C }) (filled_to n at (drop at b))
     unfolding filled_to columns_in
-    fill_stop r z T F K eT eF eK =
+    fill_stop r z C eC eT eF eK =
         let p : row_at (at + 8 * i) (drop (at + 8 * i) b) ≡ Refused r = sym e ∙ z in
         let x : Refused r ≡ plain_at n at (drop at b) = rw (plain_step (n - i) (at + 8 * i) (drop (at + 8 * i) b) (omega arith), p) at ip in
         let y : i + 0 ≡ read_to n at (drop at b) = rw (read_step (n - i) (at + 8 * i) (drop (at + 8 * i) b) (omega arith), p) at ir in
-        rw (z, x, eT, eF, eK, ← y, add-zero i, columns-long i (drop at b))
+        rw (same-columns C eC eT eF eK, z, x, ← y, add-zero i, columns-long i (drop at b))
 
     module _ (z : v ≡ clear) where
       next : at + 8 * i + 8 ≡ at + 8 * (i + 1)
@@ -134,15 +136,15 @@ module _ (b : List ℕ) (n at i : ℕ) (ip : plain_at (n - i) (at + 8 * i) (drop
           let d = rw (length-drop (at + 8 * i) b) at (row-whole (at + 8 * i) (drop (at + 8 * i) b) p) in
           omega arith
 
-  pub fill_end : n ≤ i → i ≤ n → (T F K : List ℕ)
-      → T ≡ padded (tags_of (columns_of i (drop at b))) → F ≡ padded (bits_of (columns_of i (drop at b))) → K ≡ padded (forms_of (columns_of i (drop at b)))
-      → ◌≡◌ {A = Table} (record { verdict = clear; columns = record { count = i; tags = T; flags = F; forms = K } }) (filled_to n at (drop at b))
+  pub fill_end : n ≤ i → i ≤ n → (C : Columns) → C.count ≡ i → C.tags ≡ padded (tags_of (columns_of i (drop at b)))
+      → C.flags ≡ padded (bits_of (columns_of i (drop at b))) → C.forms ≡ padded (forms_of (columns_of i (drop at b)))
+      → ◌≡◌ {A = Rows} (record { verdict = clear; columns = C }) (filled_to n at (drop at b))
   unfolding filled_to columns_in plain_at read_to
-  fill_end h l T F K eT eF eK =
+  fill_end h l C eC eT eF eK =
       let z : n - i ≡ 0 = omega arith in
       let x : clear ≡ plain_at n at (drop at b) = rw z at ip in
       let y : i + 0 ≡ read_to n at (drop at b) = rw z at ir in
-      rw (← x, eT, eF, eK, ← y, add-zero i, columns-long i (drop at b))
+      rw (same-columns C eC eT eF eK, ← x, ← y, add-zero i, columns-long i (drop at b))
 
 -- the arrays with one row more
 module _ (b : List ℕ) (n at i w : ℕ) (h : i < n) (k : n ≤ most_columns) where
@@ -175,21 +177,23 @@ pub ruleset fills = (fill_start, read-start, fill_stop, fill-next, read_next, ro
 
 -- ---- read_table
 
-pub table-far : (b : List ℕ) (at : ℕ) (v : Verdict) (t : Table) → length b < at → v ≡ refused cut_short at → t ≡ no_table v → t ≡ table_in at (drop at b)
+pub table-far : (b : List ℕ) (at : ℕ) (t : Answer Columns) → length b < at → t ≡ Err (refusal cut_short at)
+    → t ≡ table_in at (drop at b)
 unfolding table_in table_at
-table-far b at v t h e q =
+table-far b at t h e =
     let l : length b - at < 4 = omega arith in
-    rw (q, e, length-drop at b, lt-leb 4 (length b - at) l)
+    rw (e, length-drop at b, lt-leb 4 (length b - at) l)
 
-pub table-short : (b : List ℕ) (at : ℕ) (v : Verdict) (t : Table) → length b - at < 4 → v ≡ refused cut_short at → t ≡ no_table v → t ≡ table_in at (drop at b)
+pub table-short : (b : List ℕ) (at : ℕ) (t : Answer Columns) → length b - at < 4 → t ≡ Err (refusal cut_short at)
+    → t ≡ table_in at (drop at b)
 unfolding table_in table_at
-table-short b at v t l e q = rw (q, e, length-drop at b, lt-leb 4 (length b - at) l)
+table-short b at t l e = rw (e, length-drop at b, lt-leb 4 (length b - at) l)
 
 module _ (b : List ℕ) (at n : ℕ) (l : 4 ≤ length b - at) (w : n ≡ word_of 4 (drop at b)) where
-  pub table-many : (v : Verdict) (t : Table) → most_columns < n → v ≡ refused many_columns at → t ≡ no_table v
+  pub table-many : (t : Answer Columns) → most_columns < n → t ≡ Err (refusal many_columns at)
       → t ≡ table_in at (drop at b)
   unfolding table_in table_at
-  table-many v t h e q = rw (q, e, length-drop at b, le-leb 4 (length b - at) l, ← w, lt-leb n most_columns h)
+  table-many t h e = rw (e, length-drop at b, le-leb 4 (length b - at) l, ← w, lt-leb n most_columns h)
 
   module _ (h : n ≤ most_columns) where
     xs : List ℕ
@@ -215,13 +219,13 @@ module _ (b : List ℕ) (at n : ℕ) (l : 4 ≤ length b - at) (w : n ≡ word_o
         rw (f, e, columns-are) (go (found_at 8 (at + 4) (repeat_of ts)) v (λ p. read_all n (at + 4) xs p))
       where
         go : (u v : Verdict) → (v ≡ clear → read_to n (at + 4) xs ≡ n)
-            → judged_to (u then v) (record { verdict = v; columns = columns_in (columns_of (read_to n (at + 4) xs) xs) })
-            ≡ record { verdict = u then v; columns = kept (u then v) (columns_of n xs) }
-        go clear clear p = rw (p refl)
-        go clear (Refused r) p = refl
+            → answered (u then v) (columns_in (columns_of (read_to n (at + 4) xs) xs))
+            ≡ answered (u then v) (columns_in (columns_of n xs))
+        go (Ok _) (Ok u) p = rw (p refl)
+        go (Ok _) (Refused r) p = refl
         go (Refused r) v p = refl
 
-    pub table-read : (t u : Table) → t ≡ filled_to n (at + 4) (drop (at + 4) b) → u ≡ settled (at + 4) t → u ≡ table_in at (drop at b)
+    pub table-read : (t : Rows) (u : Answer Columns) → t ≡ filled_to n (at + 4) (drop (at + 4) b) → u ≡ settled (at + 4) t → u ≡ table_in at (drop at b)
     unfolding xs
     table-read t u e q = q ∙ ap (settled (at + 4)) e ∙ two-phases
 
@@ -229,39 +233,29 @@ pub ruleset reads = (table-far, table-short, table-many, table-read)
 
 -- ---- settle
 
-module _ (t : Table) (at : ℕ) (f : Found) (g : f ≡ repeat_of (take (t.columns.count - 0) t.columns.tags)) where
+module _ (t : Rows) (at : ℕ) (f : Found) (ts : List ℕ) (te : ts ≡ take t.columns.count t.columns.tags)
+    (g : f ≡ repeat_of ts) where
   found-is : f ≡ repeat_of (take t.columns.count t.columns.tags)
-  found-is = rw (sub-zero t.columns.count) at g
+  found-is = g ∙ ap repeat_of te
 
-  pub settle-repeat : (i : ℕ) (v : Verdict) (u : Table) → f ≡ At i → v ≡ refused repeated_tag (at + 8 * i) → u ≡ no_table v → u ≡ settled at t
+  pub settle-repeat : (i : ℕ) (u : Answer Columns) → f ≡ At i → u ≡ Err (refusal repeated_tag (at + 8 * i))
+      → u ≡ settled at t
   unfolding settled
-  settle-repeat i v u e z y = rw (y, z, ← found-is, e)
+  settle-repeat i u e z = rw (z, ← found-is, e)
 
   module _ (e : f ≡ Nothing) where
-    pub settle-stop : (r : Refusal) (u : Table) → t.verdict ≡ Refused r → u ≡ no_table (Refused r) → u ≡ settled at t
+    pub settle-stop : (r : Refusal) → t.verdict ≡ Refused r → Err r ≡ settled at t
     unfolding settled
-    settle-stop r u z y = rw (y, ← found-is, e, z)
+    settle-stop r z = rw (← found-is, e, z)
 
-    pub settle-good : t.verdict ≡ clear → t ≡ settled at t
+    pub settle-good : t.verdict ≡ clear → Ok t.columns ≡ settled at t
     unfolding settled
     settle-good z = rw (← found-is, e, z)
 
-  pub row_below : (i : ℕ) → t.columns.count ≤ length t.columns.tags → f ≡ At i → i < t.columns.count
-  row_below i h e =
+  pub row_below : (i : ℕ) → f ≡ At i → i < t.columns.count
+  row_below i e =
       let b = repeat-below f (take t.columns.count t.columns.tags) i found-is e in
-      rw (length-take-le t.columns.count t.columns.tags h) at b
+      let l = length-take t.columns.count t.columns.tags in
+      omega arith
 
 pub ruleset settles = (settle-repeat, settle-stop, settle-good)
-
--- the tags that were read stand in their array
-module _ (t : Table) (n at : ℕ) (xs : List ℕ) (q : t ≡ filled_to n at xs) (h : t.columns.count ≤ n)
-    (k : n ≤ most_columns) where
-  pub tags-hold : t.columns.count ≤ length t.columns.tags
-  unfolding filled_to columns_in
-  tags-hold =
-      let cs : List Column = columns_of (read_to n at xs) xs in
-      let m : read_to n at xs ≤ n = read-most n at xs in
-      let l : length cs ≡ read_to n at xs = columns-long (read_to n at xs) xs in
-      let d : length (padded (tags_of cs)) ≡ most_columns = padded-long (tags_of cs) (rw (tags-long cs) (omega arith)) in
-      let e : t.columns.tags ≡ padded (tags_of cs) = ap (λ (x : Table). x.columns.tags) q in
-      rw e (rw d (omega arith))

@@ -1,17 +1,17 @@
 -- The columns of a table (2.9.3, 2.9.4) as arrays, and the table as it is read: two phases, joined by `agree` to the one definition of judging.
-use Rattle.std.specs.Prelude.{ℕ, zero, suc, ◌+◌, ◌-◌, ◌*◌, ◌%◌, ◌<◌, ◌≤◌, ◌≡◌, refl, not, List, [], ◌∷◌, ◌++◌, length, take, drop, replicate}
+use Rattle.std.specs.Prelude.{Ok, ℕ, zero, suc, ◌+◌, ◌*◌, ◌%◌, ◌≤◌, ◌≡◌, refl, not, List, [], ◌∷◌, ◌++◌, length, take, drop, replicate}
 use Rattle.std.proofs.Common.{arith, ap, ◌∙◌, drop-drop}
 use Rattle.octets.specs.Word.{word_of}
 use Rattle.answers.specs.Numbers.{repeated_tag, most_columns}
 use Rattle.answers.specs.Padded.{padded}
-use Rattle.answers.specs.declared.Verdict.{Verdict}
-use Rattle.answers.specs.declared.Verdict.TheVariants.{Clear as clear, Refused}
+use Rattle.answers.specs.Verdict.{Answer, Verdict, answered}
+use Rattle.answers.specs.Verdict.{clear, Refused}
 use Rattle.answers.specs.Verdict.{◌then◌, need, apart, then-assoc}
 use Rattle.value.specs.Types.{number_of}
 use Rattle.table.specs.Repeat.{memb, repeat_at, repeat_of, found_at}
 use Rattle.table.specs.Table.{Column, code_of, row_at, columns_at, table_at, columns_of, table_of}
 use Rattle.table.specs.declared.Columns.{Columns}
-use Rattle.table.specs.declared.Table.{Table}
+use Rattle.table.specs.declared.Rows.{Rows}
 
 abbrev pub tags_of : List Column → List ℕ
 tags_of [] = []
@@ -39,17 +39,9 @@ no_columns =
       forms = replicate most_columns 0;
     }
 
--- the columns where nothing was refused
-abbrev pub kept : Verdict → List Column → Columns
-kept clear cs = columns_in cs
-kept (Refused r) cs = no_columns
-
-abbrev pub no_table : Verdict → Table
-no_table v = record { verdict = v; columns = no_columns }
-
 -- the table at the front of xs, whose place is `at`
-unfoldable pub table_in : ℕ → List ℕ → Table
-table_in at xs = record { verdict = table_at at xs; columns = kept (table_at at xs) (table_of xs) }
+unfoldable pub table_in : ℕ → List ℕ → Answer Columns
+table_in at xs = answered (table_at at xs) (columns_in (table_of xs))
 
 -- ---- the first phase: rows by themselves
 
@@ -58,7 +50,7 @@ plain_at zero at xs = clear
 plain_at (suc n) at xs = row_at at xs then plain_at n (at + 8) (drop 8 xs)
 
 abbrev pub one_more : Verdict → ℕ → ℕ
-one_more clear k = suc k
+one_more (Ok _) k = suc k
 one_more (Refused r) k = 0
 
 -- how many rows stand before the first that is refused by itself
@@ -66,18 +58,13 @@ unfoldable pub read_to : ℕ → ℕ → List ℕ → ℕ
 read_to zero at xs = 0
 read_to (suc n) at xs = one_more (row_at at xs) (read_to n (at + 8) (drop 8 xs))
 
-unfoldable pub filled_to : ℕ → ℕ → List ℕ → Table
+unfoldable pub filled_to : ℕ → ℕ → List ℕ → Rows
 filled_to n at xs = record { verdict = plain_at n at xs; columns = columns_in (columns_of (read_to n at xs) xs) }
 
 -- ---- the second phase: a repeated tag among the rows that were read comes first
 
--- t as it was read, or no columns where its verdict is a refusal
-abbrev pub judged_to : Verdict → Table → Table
-judged_to clear t = t
-judged_to (Refused r) t = no_table (Refused r)
-
-unfoldable pub settled : ℕ → Table → Table
-settled at t = judged_to (found_at 8 at (repeat_of (take t.columns.count t.columns.tags)) then t.verdict) t
+unfoldable pub settled : ℕ → Rows → Answer Columns
+settled at t = answered (found_at 8 at (repeat_of (take t.columns.count t.columns.tags)) then t.verdict) t.columns
 
 pub agree : (n : ℕ) (seen : List ℕ) (at : ℕ) (xs : List ℕ)
     → columns_at n seen at xs ≡ (repeat_at 8 seen at (tags_of (columns_of (read_to n at xs) xs)) then plain_at n at xs)
@@ -89,7 +76,7 @@ agree (suc n) seen at xs = go (row_at at xs) (agree n (word_of 4 xs ∷ seen) (a
         → columns_at n (word_of 4 xs ∷ seen) (at + 8) (drop 8 xs) ≡ (repeat_at 8 (word_of 4 xs ∷ seen) (at + 8) (tags_of (columns_of (read_to n (at + 8) (drop 8 xs)) (drop 8 xs))) then plain_at n (at + 8) (drop 8 xs))
         → (v then need (not (memb (word_of 4 xs) seen)) repeated_tag at then columns_at n (word_of 4 xs ∷ seen) (at + 8) (drop 8 xs))
         ≡ (repeat_at 8 seen at (tags_of (columns_of (one_more v (read_to n (at + 8) (drop 8 xs))) xs)) then v then plain_at n (at + 8) (drop 8 xs))
-    go clear ih = rw ih (then-assoc (need (not (memb (word_of 4 xs) seen)) repeated_tag at) _ _)
+    go (Ok _) ih = rw ih (then-assoc (need (not (memb (word_of 4 xs) seen)) repeated_tag at) _ _)
     go (Refused r) ih = refl
 
 -- where no row is refused by itself all were read
@@ -148,5 +135,5 @@ read-most zero at xs = omega arith
 read-most (suc n) at xs = go (row_at at xs) (read-most n (at + 8) (drop 8 xs))
   where
     go : (v : Verdict) → read_to n (at + 8) (drop 8 xs) ≤ n → one_more v (read_to n (at + 8) (drop 8 xs)) ≤ suc n
-    go clear h = omega arith
+    go (Ok _) h = omega arith
     go (Refused r) h = omega arith

@@ -1,18 +1,18 @@
 -- Which row's tag stands in an earlier row of the same table (document 01, number 7): by places in a list of tags, as a search over rows goes, and by
 -- the tags seen before, as a table is judged. One law joins the two.
-use Rattle.std.specs.Prelude.{ℕ, zero, suc, ◌+◌, ◌-◌, ◌*◌, ◌<◌, ◌≤◌, ◌≡◌, refl, Bool, true, false, cond, not, ◌||◌, List, [], ◌∷◌, eqb, get_or, drop}
+use Rattle.std.specs.Prelude.{ℕ, zero, suc, ◌+◌, ◌*◌, ◌<◌, ◌≤◌, ◌≡◌, refl, Bool, true, false, cond, not, ◌||◌, List, [], ◌∷◌, eqb, get_or, drop}
 use native.Mathlib.Omega.{arith}
 use Rattle.std.proofs.Common.{mul-zero, mul-suc, add-one, sym, ◌∙◌, drop_of_length-le, drop-cons, eq-eqb, ne_eqb, eqb-true}
 use Rattle.std.proofs.Math.Option.{Option, none, some}
 use Rattle.std.proofs.Math.ListN.{length}
 use Rattle.std.proofs.lemmas.Bool.{eqb-false}
 use Rattle.answers.specs.Numbers.{repeated_tag}
-use Rattle.answers.specs.declared.Verdict.{Verdict}
-use Rattle.answers.specs.declared.Verdict.TheVariants.{Clear as clear}
+use Rattle.answers.specs.Verdict.{Verdict}
+use Rattle.answers.specs.Verdict.{clear}
 use Rattle.answers.specs.Verdict.{refused, ◌then◌, need}
 use Rattle.table.specs.First.{first, any, first_more, first-at, first_below, any-more, any_at}
-use Rattle.table.specs.declared.Found.{Found}
-use Rattle.table.specs.declared.Found.TheVariants.{At, Nothing}
+use Rattle.table.specs.Found.{Found}
+use Rattle.table.specs.Found.{At, Nothing}
 
 -- row j has the tag of row i
 abbrev pub same_tag : List ℕ → ℕ → ℕ → Bool

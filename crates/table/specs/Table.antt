@@ -1,5 +1,5 @@
 -- A table of columns (2.9.3, 2.9.4): how it is written and judged, and the laws that tie the two.
-use Rattle.std.specs.Prelude.{ℕ, zero, suc, ◌+◌, ◌-◌, ◌*◌, ◌/◌, ◌%◌, ◌^◌, ◌≤◌, ◌<◌, ◌≡◌, refl, Bool, true, false, not, eqb, leb, drop}
+use Rattle.std.specs.Prelude.{ℕ, zero, suc, ◌+◌, ◌*◌, ◌/◌, ◌%◌, ◌^◌, ◌≤◌, ◌<◌, ◌≡◌, refl, Bool, true, false, not, eqb, leb, drop}
 use Rattle.std.proofs.Common.{arith, sym, ap, ap₂, ◌∙◌, length-drop, drop_at, drop-drop}
 use mathlib.Core.List.{List, [], ◌∷◌, ◌++◌}
 use Rattle.std.proofs.Math.ListN.{length}
@@ -7,8 +7,8 @@ use borrow.Author.Tests.{le-leb, leb-true, not-true}
 use Rattle.octets.specs.Octets.{Octets, octets-drop, octets-append}
 use Rattle.octets.specs.Word.{le_of, word_of, octets-le_of, word_back, word_small, word_sound}
 use Rattle.answers.specs.Numbers.{cut_short, many_columns, unknown_type, repeated_tag, most_columns}
-use Rattle.answers.specs.declared.Verdict.{Verdict}
-use Rattle.answers.specs.declared.Verdict.TheVariants.{Clear as clear}
+use Rattle.answers.specs.Verdict.{Verdict}
+use Rattle.answers.specs.Verdict.{clear}
 use Rattle.answers.specs.Verdict.{◌then◌, need, apart, unmet}
 use Rattle.value.specs.Types.{is_type}
 use Rattle.table.specs.Repeat.{memb}

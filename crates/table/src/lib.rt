@@ -1,26 +1,20 @@
-// A table of columns (2.9.3, 2.9.4): its rows are read into arrays by value, row by row, up to the first that is refused by itself; then the
-// rows that were read are searched for a repeated tag, whose refusal comes first where there is one.
+// A table of columns (2.9.3, 2.9.4): its rows are read into arrays by value, row by row, up to the first that is refused
+// by itself; then the rows that were read are searched for a repeated tag, whose refusal comes first where there is one.
 #![tactic(auto)]
 
 mod repeat;
 
-ghost use Rattle.std.specs.Prelude.{◌≡◌, ◌+◌, ◌*◌, ◌^◌, ◌≤◌, ◌<◌, length, drop};
+ghost use Rattle.std.specs.Prelude.{◌≡◌, ◌+◌, ◌*◌, ◌^◌, ◌≤◌, ◌<◌, length, take, drop};
 ghost use Rattle.answers.specs.Numbers.{most_columns};
 ghost use Rattle.table.specs.Table.{row_at};
-ghost use Rattle.table.specs.Columns.{no_columns, no_table, filled_to, settled, table_in};
+ghost use Rattle.table.specs.Columns.{no_columns, filled_to, settled, table_in};
 
-use answers::{MOST_COLUMNS, Verdict, refuse};
+use answers::{Answer, MOST_COLUMNS, Verdict, refuse};
 use octets::word32;
 pub use repeat::first_repeat;
 
-// The row that a search found.
-#[derive(Clone, Copy)]
-pub enum Found {
-    At(usize),
-    Nothing,
-}
-
-// For each column its tag, its two flag bits and the form of its values; zeros behind the last.
+// For each column its tag, its two flag bits and the form of its values; zeros behind the last. Arrays side by side and
+// no array of columns: document 01 asks for tags and flags that start as `[0; 128]`, and C is handed each as it is.
 #[derive(Clone, Copy)]
 pub struct Columns {
     pub count: usize,
@@ -29,11 +23,35 @@ pub struct Columns {
     pub forms: [u8; MOST_COLUMNS],
 }
 
-// Where the verdict is a refusal there are no columns.
+impl Columns {
+    // The tags, as many as there are columns; all of them where the count says more.
+    pub fn tags(&self) -> &[u32]
+        ensures { result.now ≡ take self.now.count self.now.tags }
+    {
+        &self.tags[..self.count.min(MOST_COLUMNS)]
+    }
+
+    // The flags of each column.
+    pub fn flags(&self) -> &[u32]
+        ensures { result.now ≡ take self.now.count self.now.flags }
+    {
+        &self.flags[..self.count.min(MOST_COLUMNS)]
+    }
+
+    // The form of each column's values.
+    pub fn forms(&self) -> &[u8]
+        ensures { result.now ≡ take self.now.count self.now.forms }
+    {
+        &self.forms[..self.count.min(MOST_COLUMNS)]
+    }
+}
+
+// What was read row by row: the columns up to the first row that is refused by itself, and the verdict on that row.
+// A repeat among those columns is refused first.
 #[derive(Clone, Copy)]
-pub struct Table {
-    pub verdict: Verdict,
-    pub columns: Columns,
+struct Rows {
+    verdict: Verdict,
+    columns: Columns,
 }
 
 pub fn no_columns() -> Columns
@@ -45,13 +63,6 @@ pub fn no_columns() -> Columns
         flags: [0; MOST_COLUMNS],
         forms: [0; MOST_COLUMNS],
     }
-}
-
-fn no_table(verdict: Verdict) -> Table
-    ensures { result ≡ no_table verdict }
-{
-    let columns = no_columns();
-    Table { verdict, columns }
 }
 
 // The row at `at` by itself.
@@ -69,84 +80,59 @@ fn judge_row(book: &[u8], at: usize) -> Verdict
     if value::form_of(word32(book, at)) == value::UNKNOWN {
         return refuse(answers::UNKNOWN_TYPE, at);
     }
-    Verdict::Clear
+    Ok(())
 }
 
 // The rows from `at` on, up to the first that is refused by itself.
-fn fill(book: &[u8], at: usize, n: usize) -> Table
+fn fill(book: &[u8], at: usize, n: usize) -> Rows
     requires { (n ≤ most_columns) × (at ≤ length book.now) }
     ensures { (result ≡ filled_to n at (drop at book.now)) × (result.columns.count ≤ n)
         × (at + 8 * result.columns.count ≤ length book.now) }
 {
-    let mut tags = [0u32; MOST_COLUMNS];
-    let mut flags = [0u32; MOST_COLUMNS];
-    let mut forms = [0u8; MOST_COLUMNS];
-    let mut i = 0;
-    while i < n {
+    let mut columns = no_columns();
+    for i in 0..n {
         let p = at + 8 * i;
-        let v = judge_row(book, p);
-        let Verdict::Clear = v else {
-            let columns = Columns {
-                count: i,
-                tags,
-                flags,
-                forms,
-            };
-            return Table {
-                verdict: v,
-                columns,
-            };
+        let verdict = judge_row(book, p);
+        let Ok(()) = verdict else {
+            return Rows { verdict, columns };
         };
         let tag = word32(book, p);
-        tags[i] = tag;
-        flags[i] = word32(book, p + 4) & 3;
-        forms[i] = value::form_of(tag);
-        i += 1;
+        columns.tags[i] = tag;
+        columns.flags[i] = word32(book, p + 4) & 3;
+        columns.forms[i] = value::form_of(tag);
+        columns.count = i + 1;
     }
-    let columns = Columns {
-        count: i,
-        tags,
-        flags,
-        forms,
-    };
-    Table {
-        verdict: Verdict::Clear,
+    Rows {
+        verdict: Ok(()),
         columns,
     }
 }
 
-// The table that was read row by row from `at` on, once its tags are searched for a repeat.
-fn settle(t: Table, at: usize) -> Table
-    requires { (t.columns.count ≤ length t.columns.tags) × (at + 8 * t.columns.count < 2 ^ 64) }
-    ensures { result ≡ settled at t }
+// The rows that were read from `at` on, once their tags are searched for a repeat.
+fn settle(rows: Rows, at: usize) -> Answer<Columns>
+    requires { at + 8 * rows.columns.count < 2 ^ 64 }
+    ensures { result ≡ settled at rows }
 {
-    let columns = t.columns;
-    let k = columns.count;
-    let tags = columns.tags;
-    let found = first_repeat(&tags[0..k]);
-    if let Found::At(i) = found {
-        return no_table(refuse(answers::REPEATED_TAG, at + 8 * i));
+    if let Some(i) = first_repeat(rows.columns.tags()) {
+        return refuse(answers::REPEATED_TAG, at + 8 * i);
     }
-    let v = t.verdict;
-    let Verdict::Refused(r) = v else {
-        return t;
-    };
-    no_table(v)
+    rows.verdict?;
+    Ok(rows.columns)
 }
 
 // The table whose count stands at `at`.
-pub fn read_table(book: &[u8], at: usize) -> Table
+pub fn read_table(book: &[u8], at: usize) -> Answer<Columns>
     ensures { result ≡ table_in at (drop at book.now) }
 {
     if book.len() < at {
-        return no_table(refuse(answers::CUT_SHORT, at));
+        return refuse(answers::CUT_SHORT, at);
     }
     if book.len() - at < 4 {
-        return no_table(refuse(answers::CUT_SHORT, at));
+        return refuse(answers::CUT_SHORT, at);
     }
     let n = word32(book, at) as usize;
     if MOST_COLUMNS < n {
-        return no_table(refuse(answers::MANY_COLUMNS, at));
+        return refuse(answers::MANY_COLUMNS, at);
     }
     settle(fill(book, at + 4, n), at + 4)
 }

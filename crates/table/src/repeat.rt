@@ -2,22 +2,19 @@
 ghost use Rattle.std.specs.Prelude.{◌≡◌};
 ghost use Rattle.table.specs.Repeat.{repeat_of};
 
-use crate::Found;
-
-pub fn first_repeat(tags: &[u32]) -> Found
+pub fn first_repeat(tags: &[u32]) -> Option<usize>
     ensures { result ≡ repeat_of tags.now }
 {
+    // Document 01 asks for two loops that a label leaves with the place, and only a `loop` carries a value.
     let mut i = 0;
     let found = 'rows: loop {
         if tags.len() <= i {
-            break 'rows Found::Nothing;
+            break 'rows None;
         }
-        let mut j = 0;
-        while j < i {
+        for j in 0..i {
             if tags[j] == tags[i] {
-                break 'rows Found::At(i);
+                break 'rows Some(i);
             }
-            j += 1;
         }
         i += 1;
     };

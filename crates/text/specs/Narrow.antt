@@ -1,10 +1,10 @@
 -- Narrow strings (2.9.6.3): one octet or more that are not 0, and a 0. How one is walked over and written, and the laws that tie the two.
-use Rattle.std.specs.Prelude.{ℕ, suc, ◌+◌, ◌≤◌, ◌<◌, ◌≡◌, refl, List, [], ◌∷◌, ◌++◌, cond, length, eqb}
+use Rattle.std.specs.Prelude.{ℕ, suc, ◌+◌, ◌≤◌, ◌≡◌, refl, List, [], ◌∷◌, ◌++◌, cond, length, eqb}
 use Rattle.std.proofs.Common.{add-zero, arith, ap, ◌∙◌, length-append, ne_eqb, eqb-true}
 use Rattle.std.proofs.lemmas.Bool.{eqb-false}
 use Rattle.octets.specs.Cases.{taken}
-use Rattle.answers.specs.declared.Walk.{Walk}
-use Rattle.answers.specs.declared.Walk.TheVariants.{Ends}
+use Rattle.answers.specs.Walk.{Walk}
+use Rattle.answers.specs.Walk.{Ends}
 use Rattle.answers.specs.Walk.{broken, no_end, break_of, break-either}
 
 -- where i octets that are not 0 have gone before

@@ -1,12 +1,11 @@
 -- How a string is written, the two laws that tie that to `text_of`, and that it holds no 0 in front of its end.
-use Rattle.std.specs.Prelude.{ℕ, zero, suc, ◌+◌, ◌-◌, ◌≤◌, ◌<◌, ◌≡◌, refl, List, [], ◌∷◌, ◌++◌, length, drop, eqb}
+use Rattle.std.specs.Prelude.{ℕ, zero, suc, ◌+◌, ◌-◌, ◌≤◌, ◌≡◌, refl, List, [], ◌∷◌, ◌++◌, length, drop, eqb}
 use Rattle.std.proofs.Common.{add-zero, arith, sym, ap, ◌∙◌, append_assoc, length-append, length-drop, lt-ltb, le-ltb, ne_eqb, eqb-true}
 use Rattle.std.proofs.Math.Seq.{drop-append_seam}
 use Rattle.std.proofs.lemmas.Bool.{eqb-false}
 use Rattle.octets.specs.Cases.{split, taken}
 use Rattle.octets.specs.Octets.{octet_at}
-use Rattle.answers.specs.declared.Walk.{Walk}
-use Rattle.answers.specs.declared.Walk.TheVariants.{Ends}
+use Rattle.answers.specs.Walk.{Ends}
 use Rattle.answers.specs.Walk.{no_end, break_of, break-either}
 use Rattle.text.specs.Narrow.{NoZero}
 use Rattle.text.specs.Utf8.{char_width, text_from, text_of}

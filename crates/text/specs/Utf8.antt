@@ -1,8 +1,8 @@
 -- UTF-8 strings (2.9.6.4; RFC 3629, section 4): the width of the character that some octets begin, and one character or more with a 0 behind.
 use Rattle.std.specs.Prelude.{ℕ, zero, suc, ◌+◌, ◌-◌, List, [], ◌∷◌, cond, eqb, ltb}
 use Rattle.octets.specs.Octets.{octet_at}
-use Rattle.answers.specs.declared.Walk.{Walk}
-use Rattle.answers.specs.declared.Walk.TheVariants.{Ends}
+use Rattle.answers.specs.Walk.{Walk}
+use Rattle.answers.specs.Walk.{Ends}
 use Rattle.answers.specs.Walk.{broken}
 
 -- the least and the greatest second octet after the first

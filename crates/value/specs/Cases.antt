@@ -6,11 +6,11 @@ use Rattle.std.proofs.Common.{sym, ◌∙◌, length-drop, drop_of_length-le, dr
 use Rattle.std.specs.Int.{w64}
 use borrow.Author.Tests.{lt-ltb, le-ltb, le-leb, lt-leb, eq-eqb, ne_eqb}
 use Rattle.octets.specs.Octets.{rest_of}
-use Rattle.answers.specs.declared.Walk.{Walk}
-use Rattle.answers.specs.declared.Walk.TheVariants.{Ends, Broken}
+use Rattle.answers.specs.Walk.{Walk}
+use Rattle.answers.specs.Walk.{Ends, Broken}
 use Rattle.answers.specs.Walk.{broken, onto}
-use Rattle.whole.specs.declared.Number.{Number}
-use Rattle.whole.specs.declared.Number.TheVariants.{Is, Broken as NoNumber}
+use Rattle.whole.specs.Number.{Number}
+use Rattle.whole.specs.Number.{Some, Broken as NoNumber}
 use Rattle.whole.specs.Number.{number_of as whole_of}
 use Rattle.text.specs.Narrow.{narrow_of}
 use Rattle.text.specs.Utf8.{text_of}
@@ -19,40 +19,35 @@ use Rattle.value.specs.Types.{unknown_form, kind_at, form_at, Row, types, form_i
 use Rattle.value.specs.Value.{numeric_of, truth_of, binary_of, element_of, list_from, list_of, value_of}
 use Rattle.value.specs.Within.{element-within}
 
--- ---- the table, as the two arrays of the code
+-- ---- the table, as the array of the code
 
-abbrev codes_in : List Row → List ℕ
-codes_in [] = []
-codes_in (r ∷ rs) = r.code ∷ codes_in rs
+abbrev table_of : List Row → List (ℕ × ℕ)
+table_of [] = []
+table_of (r ∷ rs) = (r.code, r.form) ∷ table_of rs
 
-abbrev forms_in : List Row → List ℕ
-forms_in [] = []
-forms_in (r ∷ rs) = r.form ∷ forms_in rs
+-- row i of the array, a row of zeros past its end
+abbrev pub row_of : ℕ → ℕ × ℕ
+row_of i = get_or (table_of types) i (0, 0)
 
-abbrev pub codes : List ℕ
-codes = codes_in types
-
-abbrev pub forms : List ℕ
-forms = forms_in types
-
-rows_next : (rs : List Row) (i : ℕ) → i < length (codes_in rs)
-    → drop i rs ≡ record { code = get_or (codes_in rs) i 0; form = get_or (forms_in rs) i 0 } ∷ drop (suc i) rs
+rows_next : (rs : List Row) (i : ℕ) → i < length rs
+    → drop i rs
+    ≡ record { code = (get_or (table_of rs) i (0, 0)).0; form = (get_or (table_of rs) i (0, 0)).1 } ∷ drop (suc i) rs
 rows_next [] i h = absurd (omega arith)
 rows_next (r ∷ rs) zero h = refl
 rows_next (r ∷ rs) (suc i) h = rows_next rs i (omega arith)
 
 types-next : (i : ℕ) → i < 10
-    → drop i types ≡ record { code = get_or codes i 0; form = get_or forms i 0 } ∷ drop (suc i) types
+    → drop i types ≡ record { code = (row_of i).0; form = (row_of i).1 } ∷ drop (suc i) types
 types-next i h = rows_next types i h
 
 module _ (code i : ℕ) (inv : form_in code (drop i types) ≡ number_of code) where
-  pub type-here : i < 10 → get_or codes i 0 ≡ code → get_or forms i 0 ≡ number_of code
+  pub type-here : i < 10 → (row_of i).0 ≡ code → (row_of i).1 ≡ number_of code
   unfolding form_in
-  type-here h e = rw (types-next i h, eq-eqb (get_or codes i 0) code e) at inv
+  type-here h e = rw (types-next i h, eq-eqb (row_of i).0 code e) at inv
 
-  pub type-next : i < 10 → (get_or codes i 0 ≡ code → ⊥) → form_in code (drop (i + 1) types) ≡ number_of code
+  pub type-next : i < 10 → ((row_of i).0 ≡ code → ⊥) → form_in code (drop (i + 1) types) ≡ number_of code
   unfolding form_in
-  type-next h e = rw add-one (rw (types-next i h, ne_eqb (get_or codes i 0) code e) at inv)
+  type-next h e = rw add-one (rw (types-next i h, ne_eqb (row_of i).0 code e) at inv)
 
   pub type-none : 10 ≤ i → unknown_form ≡ number_of code
   unfolding form_in
@@ -66,7 +61,7 @@ pub ruleset searches = (type-start, type-here, type-next, type-none)
 
 -- ---- single values
 
-pub numeric-is : (r : Number) (s : List ℕ) (n w : ℕ) → r ≡ Is n w → r ≡ whole_of s → Ends w ≡ numeric_of s
+pub numeric-is : (r : Number) (s : List ℕ) (n w : ℕ) → r ≡ Some (n, w) → r ≡ whole_of s → Ends w ≡ numeric_of s
 unfolding numeric_of
 numeric-is r s n w e q = rw (← q, e)
 
@@ -92,7 +87,7 @@ module _ (r : Number) (s : List ℕ) where
   unfolding binary_of
   binary-no e q = rw (← q, e)
 
-  module _ (n w : ℕ) (e : r ≡ Is n w) (q : r ≡ whole_of s) where
+  module _ (n w : ℕ) (e : r ≡ Some (n, w)) (q : r ≡ whole_of s) where
     pub binary-none : n < 1 → broken ≡ binary_of s
     unfolding binary_of
     binary-none h = rw (← q, e) (simp (lt-ltb n 1 h))
@@ -147,14 +142,14 @@ module _ (k : Kind) (r : Number) (s : List ℕ) where
   unfolding list_of
   list-no e q = rw (← q, e)
 
-  module _ (n w : ℕ) (e : r ≡ Is n w) (q : r ≡ whole_of s) where
+  module _ (n w : ℕ) (e : r ≡ Some (n, w)) (q : r ≡ whole_of s) where
     pub list-none : n < 1 → broken ≡ list_of k s
     unfolding list_of
     list-none h = rw (← q, e) (simp (lt-ltb n 1 h))
 
-    pub list-start : 1 ≤ n → list_from k n w (drop w s) ≡ list_of k s
+    pub list-start : 1 ≤ n → list_from k (n - 0) w (drop w s) ≡ list_of k s
     unfolding list_of
-    list-start h = rw (← q, e) (simp (le-ltb n 1 h))
+    list-start h = let z : n - 0 ≡ n = omega arith in rw (z, ← q, e) (simp (le-ltb n 1 h))
 
 list-step : (k : Kind) (n i : ℕ) (xs : List ℕ) → 0 < n
     → list_from k n i xs ≡ onto (element_of k xs) i (λ w. list_from k (n - 1) (i + w) (drop w xs))
@@ -162,21 +157,26 @@ unfolding list_from
 list-step k zero i xs h = absurd (omega arith)
 list-step k (suc n) i xs h = let e : suc n - 1 ≡ n = omega arith in simp e
 
-module _ (k : Kind) (s : List ℕ) (left i : ℕ) (inv : list_from k left i (drop i s) ≡ list_of k s) where
-  pub list-end : left ≤ 0 → Ends i ≡ list_of k s
+-- m of n elements are walked over
+module _ (k : Kind) (s : List ℕ) (n m i : ℕ) (inv : list_from k (n - m) i (drop i s) ≡ list_of k s) where
+  pub list-end : n ≤ m → Ends i ≡ list_of k s
   unfolding list_from
-  list-end h = let z : left ≡ 0 = omega arith in rw z at inv
+  list-end h = let z : n - m ≡ 0 = omega arith in rw z at inv
 
-  module _ (r : Walk) (q : r ≡ element_of k (take (length s - i) (drop i s))) (h : 0 < left) where
+  module _ (r : Walk) (q : r ≡ element_of k (take (length s - i) (drop i s))) (h : m < n) where
+    left : 0 < n - m
+    left = omega arith
+
     pub list-broken : (p : ℕ) → r ≡ Broken p → Broken i ≡ list_of k s
     list-broken p e =
         let z : element_of k (drop i s) ≡ Broken p = rw rest_of at (sym q) ∙ e in
-        simp (list-step k left i (drop i s) h, z) at inv
+        simp (list-step k (n - m) i (drop i s) left, z) at inv
 
-    pub list-next : (w : ℕ) → r ≡ Ends w → list_from k (left - 1) (i + w) (drop (i + w) s) ≡ list_of k s
+    pub list-next : (w : ℕ) → r ≡ Ends w → list_from k (n - (m + 1)) (i + w) (drop (i + w) s) ≡ list_of k s
     list-next w e =
         let z : element_of k (drop i s) ≡ Ends w = rw rest_of at (sym q) ∙ e in
-        simp (list-step k left i (drop i s) h, z, drop-drop) at inv
+        let l : n - m - 1 ≡ n - (m + 1) = omega arith in
+        simp (list-step k (n - m) i (drop i s) left, z, drop-drop, l) at inv
 
 module _ (k : Kind) (s : List ℕ) (i : ℕ) (r : Walk) (q : r ≡ element_of k (take (length s - i) (drop i s)))
     (h : i ≤ length s) (w : ℕ) (e : r ≡ Ends w) where

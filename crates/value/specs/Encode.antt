@@ -4,11 +4,9 @@ use Rattle.std.proofs.Common.{arith, add-zero, sym, ap, ◌∙◌, append_assoc,
 use Rattle.std.proofs.Math.Seq.{drop-append_seam}
 use Rattle.octets.specs.Cases.{taken}
 use Rattle.octets.specs.Octets.{octet_at, Octets, octets-drop, front}
-use Rattle.answers.specs.declared.Walk.{Walk}
-use Rattle.answers.specs.declared.Walk.TheVariants.{Ends}
+use Rattle.answers.specs.Walk.{Ends}
 use Rattle.answers.specs.Walk.{no_end, from-walk}
-use Rattle.whole.specs.declared.Number.{Number}
-use Rattle.whole.specs.declared.Number.TheVariants.{Is}
+use Rattle.whole.specs.Number.{Some}
 use Rattle.whole.specs.Number.{number_of, encode_number}
 use Rattle.whole.specs.Laws.{number-back, number-sound, number_small, number-wide}
 use Rattle.text.specs.Narrow.{encode_narrow, NoZero, narrow_back, narrow-sound}
@@ -47,7 +45,7 @@ encode_item (a_binary t) = encode_number (length t) ++ t
 
 -- ---- what was written is read back
 
-number-front : (n : ℕ) → n < 2 ^ 32 → (more rest : List ℕ) → number_of ((encode_number n ++ more) ++ rest) ≡ Is n (length (encode_number n))
+number-front : (n : ℕ) → n < 2 ^ 32 → (more rest : List ℕ) → number_of ((encode_number n ++ more) ++ rest) ≡ Some (n, length (encode_number n))
 number-front n h more rest = rw append_assoc (number-back n h (more ++ rest))
 
 truth-back : (b : ℕ) → b < 2 → (rest : List ℕ) → truth_of (b ∷ rest) ≡ Ends 1
@@ -134,7 +132,7 @@ pub record Written (k : Kind) (xs : List ℕ) (w : ℕ) : Type 0 where
   pub reads : xs ≡ encode_item item ++ rest
   pub wide : w ≡ length (encode_item item)
 
-binary-written : (xs : List ℕ) → Octets xs → (n v w : ℕ) → number_of xs ≡ Is n v → 1 ≤ n → n ≤ length xs - v → v + n ≡ w → Written binary xs w
+binary-written : (xs : List ℕ) → Octets xs → (n v w : ℕ) → number_of xs ≡ Some (n, v) → 1 ≤ n → n ≤ length xs - v → v + n ≡ w → Written binary xs w
 binary-written xs o n v w p h i z =
     let t = take n (drop v xs) in
     let long : length t ≡ n = length-take-le n (drop v xs) (simp length-drop i) in
@@ -235,7 +233,7 @@ list-sound k xs o w e =
     (λ n v p q. taken (ltb n 1) _ _ _ q (λ t q. no_end q)
     (λ t q. at-list n v p (ltb-false n 1 t) (items-sound k n v (drop v xs) (octets-drop v xs o) w q)))
   where
-    at-list : (n v : ℕ) → number_of xs ≡ Is n v → 1 ≤ n → WrittenAll k n v (drop v xs) w → List-at k xs w
+    at-list : (n v : ℕ) → number_of xs ≡ Some (n, v) → 1 ≤ n → WrittenAll k n v (drop v xs) w → List-at k xs w
     at-list n v p h r =
         let wd = number-wide xs o n v p in
         record {

@@ -1,17 +1,17 @@
 -- Where a value is at fault (document 02, request 109): a single value at its start; a list at its count if that is
 -- wrong, else at the first element that is none of its kind. This is said of what can be written, and the walk breaks
 -- at just that place: `value-fault`, `fault-value`.
-use Rattle.std.specs.Prelude.{ℕ, zero, suc, ◌+◌, ◌-◌, ◌^◌, ◌≤◌, ◌<◌, ◌≡◌, refl, List, [], ◌∷◌, ◌++◌, length, drop, ltb}
+use Rattle.std.specs.Prelude.{ℕ, zero, suc, ◌+◌, ◌-◌, ◌^◌, ◌≤◌, ◌<◌, ◌≡◌, refl, List, [], ◌++◌, length, drop, ltb}
 use Rattle.std.proofs.Common.{arith, sym, ap, ◌∙◌, append_assoc, length-append, lt-ltb, ltb-true}
 use Rattle.octets.specs.Cases.{split, taken}
 use Rattle.octets.specs.Octets.{Octets, octets-drop, octets-right}
-use Rattle.answers.specs.declared.Walk.{Walk}
-use Rattle.answers.specs.declared.Walk.TheVariants.{Ends, Broken}
+use Rattle.answers.specs.Walk.{Walk}
+use Rattle.answers.specs.Walk.{Ends, Broken}
 use Rattle.answers.specs.Walk.{broken, no_end, from-break}
-use Rattle.whole.specs.declared.Number.{Number}
-use Rattle.whole.specs.declared.Number.TheVariants.{Is, Broken as NoNumber}
+use Rattle.whole.specs.Number.{Number}
+use Rattle.whole.specs.Number.{Some, Broken as NoNumber}
 use Rattle.whole.specs.Number.{number_of, encode_number}
-use Rattle.whole.specs.Laws.{number-back, number-sound, number_small, number-wide, no_number}
+use Rattle.whole.specs.Laws.{same-number, number-back, number-sound, number_small, number-wide, no_number}
 use Rattle.value.specs.Types.{Kind, Form, one, many, unknown}
 use Rattle.value.specs.Value.{element_of, list_from, list_of, value_of}
 use Rattle.value.specs.Within.{break-number, element-break}
@@ -53,7 +53,7 @@ Fault unknown xs q = q ≡ 0
 no_item : (k : Kind) (xs : List ℕ) (p : ℕ) → element_of k xs ≡ Broken p → NoItem k xs
 no_item k xs p e v z g rest q = no_end (sym e ∙ ap (element_of k) q ∙ rw z at (item_back v g rest))
 
-no-count : (xs : List ℕ) → ((n w : ℕ) → number_of xs ≡ Is n w → n < 1) → NoCount xs
+no-count : (xs : List ℕ) → ((n w : ℕ) → number_of xs ≡ Some (n, w) → n < 1) → NoCount xs
 no-count xs h n p q rest e = absurd (omega (arith, h n _ (ap number_of e ∙ number-back n q rest)))
 
 -- of n elements at the front of xs, where i octets have gone before, the first that is none stands at q
@@ -87,11 +87,11 @@ unfolding list_of
 list-fault k xs o q e =
     break-number (number_of xs) _ q e
     (λ n v p z. taken (ltb n 1) _ _ _ z
-    (λ t z. wrong_count (no-count xs (λ m w y. let s : n ≡ m = cc in omega (arith, ltb-true n 1 t))) cc)
+    (λ t z. wrong_count (no-count xs (λ m w y. let (s, r) = same-number (sym p ∙ y) in omega (arith, ltb-true n 1 t, s))) cc)
     (λ t z. bad_element (element n v p (items-fault k n v (drop v xs) (octets-drop v xs o) q z))))
     (λ p z. wrong_count (no-count xs (λ m w y. no_number (sym p ∙ y))) (sym z))
   where
-    element : (n v : ℕ) → number_of xs ≡ Is n v → FaultFrom k n v (drop v xs) q → BadElement k xs q
+    element : (n v : ℕ) → number_of xs ≡ Some (n, v) → FaultFrom k n v (drop v xs) q → BadElement k xs q
     element n v p t =
         let g = t.good in
         let wide = number-wide xs o n v p in
@@ -128,7 +128,7 @@ count_none k xs o h = go (number_of xs) refl
   where
     go : (r : Number) → number_of xs ≡ r → list_of k xs ≡ broken
     go NoNumber e = rw e
-    go (Is n w) e =
+    go (Some (n, w)) e =
         split n 1 (λ l. rw e (simp (lt-ltb n 1 l)))
         (λ l. absurd (h n l (number_small xs o n w e) (drop w xs) (number-sound xs o n w e)))
 

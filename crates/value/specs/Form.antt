@@ -3,8 +3,7 @@
 use Rattle.std.specs.Prelude.{ℕ, ◌^◌, ◌≤◌, ◌<◌, ◌≡◌, refl, List, [], ◌∷◌, ◌++◌, length, take, drop}
 use Rattle.std.proofs.Common.{arith, sym, ap, ◌∙◌, take_at, drop_at}
 use Rattle.octets.specs.Octets.{Octets}
-use Rattle.answers.specs.declared.Walk.{Walk}
-use Rattle.answers.specs.declared.Walk.TheVariants.{Ends}
+use Rattle.answers.specs.Walk.{Ends}
 use Rattle.answers.specs.Walk.{broken, no_end}
 use Rattle.whole.specs.Number.{number_of as whole_of}
 use Rattle.text.specs.Narrow.{narrow_from, encode_narrow, NoZero}

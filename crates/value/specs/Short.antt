@@ -3,7 +3,7 @@ use Rattle.std.specs.Prelude.{ℕ, ◌≡◌, List, Bool, true, false, cond, eqb
 use Rattle.std.proofs.Common.{arith, ap, eqb-true}
 use Rattle.octets.specs.Cases.{taken}
 use Rattle.octets.specs.Octets.{octet_at}
-use Rattle.answers.specs.declared.Walk.TheVariants.{Ends}
+use Rattle.answers.specs.Walk.{Ends}
 use Rattle.whole.specs.Number.{number_of}
 use Rattle.value.specs.Types.{number, truth, kind_number, form_at}
 use Rattle.value.specs.Value.{numeric_of, truth_of, element_of, value_of}

@@ -1,8 +1,7 @@
 -- The cases that document 01 marks P, shown of the definitions over one list.
 use Rattle.std.specs.Prelude.{ℕ, ◌≡◌, refl, List, [], ◌∷◌, length}
 use Rattle.octets.specs.Word.{word_of}
-use Rattle.answers.specs.declared.Walk.{Walk}
-use Rattle.answers.specs.declared.Walk.TheVariants.{Ends}
+use Rattle.answers.specs.Walk.{Ends}
 use Rattle.answers.specs.Walk.{broken}
 use Rattle.whole.specs.Number.{fewest, least_of, long_number, number_of as whole_of, encode_number}
 use Rattle.text.specs.Utf8.{width_of, char_width, text_from}

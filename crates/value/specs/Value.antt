@@ -1,11 +1,11 @@
 -- Values at the front of a part (2.9.6.1 to 2.9.6.9), and where they end.
 use Rattle.std.specs.Prelude.{ℕ, zero, suc, ◌+◌, ◌-◌, List, cond, length, drop, ltb, leb}
 use Rattle.octets.specs.Octets.{octet_at}
-use Rattle.answers.specs.declared.Walk.{Walk}
-use Rattle.answers.specs.declared.Walk.TheVariants.{Ends, Broken}
+use Rattle.answers.specs.Walk.{Walk}
+use Rattle.answers.specs.Walk.{Ends}
 use Rattle.answers.specs.Walk.{broken, onto}
-use Rattle.whole.specs.declared.Number.{Number}
-use Rattle.whole.specs.declared.Number.TheVariants.{Is, Broken as NoNumber}
+use Rattle.whole.specs.Number.{Number}
+use Rattle.whole.specs.Number.{Some, Broken as NoNumber}
 use Rattle.whole.specs.Number.{number_of}
 use Rattle.text.specs.Narrow.{narrow_of}
 use Rattle.text.specs.Utf8.{text_of}
@@ -13,7 +13,7 @@ use Rattle.value.specs.Types.{Kind, number, truth, narrow, text, binary, Form, o
 
 -- what follows a whole number that is read, its value and its width in hand
 abbrev pub counted : Number → (ℕ → ℕ → Walk) → Walk
-counted (Is n w) f = f n w
+counted (Some (n, w)) f = f n w
 counted NoNumber f = broken
 
 -- 2.9.6.1

@@ -3,11 +3,11 @@ use Rattle.std.specs.Prelude.{ℕ, zero, suc, ◌+◌, ◌-◌, ◌≤◌, ◌�
 use Rattle.std.proofs.Common.{arith, sym, ap, ◌∙◌, length-drop, leb-true, ltb-false}
 use Rattle.octets.specs.Cases.{taken}
 use Rattle.octets.specs.Octets.{octet_at}
-use Rattle.answers.specs.declared.Walk.{Walk}
-use Rattle.answers.specs.declared.Walk.TheVariants.{Ends, Broken}
+use Rattle.answers.specs.Walk.{Walk}
+use Rattle.answers.specs.Walk.{Ends, Broken}
 use Rattle.answers.specs.Walk.{no_end, from-walk, from-break, break_of, break-either}
-use Rattle.whole.specs.declared.Number.{Number}
-use Rattle.whole.specs.declared.Number.TheVariants.{Is, Broken as NoNumber}
+use Rattle.whole.specs.Number.{Number}
+use Rattle.whole.specs.Number.{Some, Broken as NoNumber}
 use Rattle.whole.specs.Number.{number_of}
 use Rattle.whole.specs.Laws.{number-within}
 use Rattle.text.specs.Narrow.{narrow_within, narrow-breaks}
@@ -17,14 +17,14 @@ use Rattle.value.specs.Value.{counted, numeric_of, truth_of, binary_of, element_
 
 -- the number that a walk went on from
 pub from-number : {X : Type 0} (r : Number) (f : ℕ → ℕ → Walk) (w : ℕ) → counted r f ≡ Ends w
-    → ((n k : ℕ) → r ≡ Is n k → f n k ≡ Ends w → X) → X
-from-number (Is n k) f w e g = g n k refl e
+    → ((n k : ℕ) → r ≡ Some (n, k) → f n k ≡ Ends w → X) → X
+from-number (Some (n, k)) f w e g = g n k refl e
 from-number NoNumber f w e g = no_end e
 
 -- the number that a walk broke at or behind
 pub break-number : {X : Type 0} (r : Number) (f : ℕ → ℕ → Walk) (q : ℕ) → counted r f ≡ Broken q
-    → ((n k : ℕ) → r ≡ Is n k → f n k ≡ Broken q → X) → (r ≡ NoNumber → 0 ≡ q → X) → X
-break-number (Is n k) f q e g h = g n k refl e
+    → ((n k : ℕ) → r ≡ Some (n, k) → f n k ≡ Broken q → X) → (r ≡ NoNumber → 0 ≡ q → X) → X
+break-number (Some (n, k)) f q e g h = g n k refl e
 break-number NoNumber f q e g h = h refl cc
 
 pub numeric-within : (xs : List ℕ) (w : ℕ) → numeric_of xs ≡ Ends w → w ≤ length xs
@@ -83,7 +83,7 @@ value-within unknown xs w e = no_end e
 -- ---- where a value breaks lies in the part
 
 break-counted : (r : Number) (f : ℕ → ℕ → Walk) → ((n w : ℕ) → break_of (f n w) ≡ 0) → break_of (counted r f) ≡ 0
-break-counted (Is n w) f h = h n w
+break-counted (Some (n, w)) f h = h n w
 break-counted NoNumber f h = refl
 
 element-breaks : (k : Kind) (xs : List ℕ) → break_of (element_of k xs) ≡ 0

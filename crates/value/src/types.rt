@@ -1,5 +1,5 @@
 // A tag's low 16 bits are its type (2.9.2). The form of its values is a number: that of a kind, which is below LIST, or
-// LIST more for a list of the kind.
+// LIST more for a list of the kind. It is no enum: `walk_value` and `judge_record` answer for every u8.
 ghost use Rattle.std.specs.Prelude.{◌≡◌, ◌%◌};
 ghost use Rattle.value.specs.Types.{number_of};
 
@@ -25,32 +25,27 @@ pub const UNKNOWN: u8 = 255;
 // 000D is a reference to another entry, stored as a narrow string (2.9.6.3).
 const REFERENCE: u8 = NARROW;
 
-const TYPES: [u16; 10] = [
-    0x0003, 0x000B, 0x000D, 0x001E, 0x001F, 0x0102, 0x1003, 0x101E, 0x101F, 0x1102,
-];
-
-const FORM_OF_TYPE: [u8; 10] = [
-    NUMBER,
-    TRUTH,
-    REFERENCE,
-    NARROW,
-    TEXT,
-    BINARY,
-    LIST + NUMBER,
-    LIST + NARROW,
-    LIST + TEXT,
-    LIST + BINARY,
+// The ten type codes, each with the form of its values: a constant table that is searched, as document 01 asks.
+const TYPES: [(u16, u8); 10] = [
+    (0x0003, NUMBER),
+    (0x000B, TRUTH),
+    (0x000D, REFERENCE),
+    (0x001E, NARROW),
+    (0x001F, TEXT),
+    (0x0102, BINARY),
+    (0x1003, LIST + NUMBER),
+    (0x101E, LIST + NARROW),
+    (0x101F, LIST + TEXT),
+    (0x1102, LIST + BINARY),
 ];
 
 fn form_of_type(code: u16) -> u8
     ensures { result ≡ number_of code }
 {
-    let mut i = 0;
-    while i < 10 {
-        if TYPES[i] == code {
-            return FORM_OF_TYPE[i];
+    for (known, form) in &TYPES {
+        if *known == code {
+            return *form;
         }
-        i += 1;
     }
     UNKNOWN
 }

@@ -6,14 +6,13 @@ ghost use Rattle.value.specs.Value.{numeric_of, truth_of, binary_of, element_of,
 
 use crate::types::{FORMS, LIST, NARROW, NUMBER, TEXT, TRUTH};
 use answers::Walk;
-use whole::Number;
 
 fn numeric(s: &[u8]) -> Walk
     ensures { result ≡ numeric_of s.now }
 {
     match whole::read_number(s) {
-        Number::Is(_, w) => Walk::Ends(w),
-        Number::Broken => Walk::Broken(0),
+        Some((_, w)) => Ok(w),
+        None => Err(0),
     }
 }
 
@@ -21,29 +20,29 @@ fn truth(s: &[u8]) -> Walk
     ensures { result ≡ truth_of s.now }
 {
     if s.len() < 1 {
-        return Walk::Broken(0);
+        return Err(0);
     }
     let a = s[0];
     if a < 2 {
-        return Walk::Ends(1);
+        return Ok(1);
     }
-    Walk::Broken(0)
+    Err(0)
 }
 
 fn binary(s: &[u8]) -> Walk
     ensures { result ≡ binary_of s.now }
 {
-    let Number::Is(n, w) = whole::read_number(s) else {
-        return Walk::Broken(0);
+    let Some((n, w)) = whole::read_number(s) else {
+        return Err(0);
     };
     if n < 1 {
-        return Walk::Broken(0);
+        return Err(0);
     }
     let k = n as usize;
     if k <= s.len() - w {
-        return Walk::Ends(w + k);
+        return Ok(w + k);
     }
-    Walk::Broken(0)
+    Err(0)
 }
 
 // One value of a kind, single or in a list.
@@ -62,39 +61,35 @@ fn element(kind: u8, s: &[u8]) -> Walk
 fn list(kind: u8, s: &[u8]) -> Walk
     ensures { result ≡ list_of (kind_at kind) s.now }
 {
-    let Number::Is(n, w) = whole::read_number(s) else {
-        return Walk::Broken(0);
+    let Some((n, w)) = whole::read_number(s) else {
+        return Err(0);
     };
     if n < 1 {
-        return Walk::Broken(0);
+        return Err(0);
     }
-    let mut left = n;
     let mut i = w;
-    while 0 < left {
-        let Walk::Ends(k) = element(kind, &s[i..]) else {
-            return Walk::Broken(i);
+    for _ in 0..n {
+        let Ok(k) = element(kind, &s[i..]) else {
+            return Err(i);
         };
         i += k;
-        left -= 1;
     }
-    Walk::Ends(i)
+    Ok(i)
 }
 
 // Whether one look at the front of `s` shows a sound value of one octet: yes or no, or a number below 128. Where it does, no walk is needed.
+#[tactic(auto, unfolding(crate::specs::Short::short_of))]
 pub fn is_short(form: u8, s: &[u8]) -> bool
     ensures { result ≡ short_of form s.now }
 {
-    if s.len() < 1 {
+    let Some(a) = s.first() else {
         return false;
+    };
+    match form {
+        TRUTH => *a < 2,
+        NUMBER => *a < 128,
+        _ => false,
     }
-    let a = s[0];
-    if form == TRUTH {
-        return a < 2;
-    }
-    if form == NUMBER {
-        return a < 128;
-    }
-    false
 }
 
 // The value of a form at the front of `s`.
@@ -107,5 +102,5 @@ pub fn walk_value(form: u8, s: &[u8]) -> Walk
     if form < FORMS {
         return list(form - LIST, s);
     }
-    Walk::Broken(0)
+    Err(0)
 }

@@ -2,7 +2,7 @@
 use Rattle.std.specs.Prelude.{ℕ, ◌≡◌, List}
 use Rattle.lookup.specs.Look.{lookup_of, stretch_by, stretch_of}
 use Rattle.lookup.specs.declared.Which.{Which}
-use Rattle.lookup.specs.declared.Looked.{Looked}
+use Rattle.lookup.specs.Looked.{Looked}
 
 pub value-cut : (b : List ℕ) (which : Which) (tag : ℕ) (f : Looked) (xs : List ℕ) → f ≡ lookup_of b which tag
     → xs ≡ stretch_by b f → xs ≡ stretch_of b which tag

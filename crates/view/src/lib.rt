@@ -59,14 +59,16 @@ fn between<'a>(book: &'a [u8], start: usize, end: usize) -> &'a [u8]
     &book[start..end]
 }
 
-// The stretch that a lookup found.
+// The stretch that a lookup found. It takes any answer; `cut` of lookup is for what a lookup of the same book found.
 fn cut<'a>(book: &'a [u8], found: Looked) -> &'a [u8]
     ensures { result.now ≡ stretch_by book.now found }
 {
-    match found {
-        Looked::At(start, end) => between(book, start, end),
-        Looked::Absent => &book[0..0],
-        Looked::Refused(_) => &book[0..0],
+    let Ok(value) = found else {
+        return &book[0..0];
+    };
+    match value {
+        Some((start, end)) => between(book, start, end),
+        None => &book[0..0],
     }
 }
 

@@ -1,5 +1,5 @@
 -- The ways of the code that reads and writes whole numbers, on plain values.
-use Rattle.std.specs.Prelude.{ℕ, zero, suc, ◌+◌, ◌-◌, ◌*◌, ◌/◌, ◌%◌, ◌^◌, ◌≤◌, ◌<◌, ◌≡◌, refl, List, [], ◌∷◌, ◌++◌, length, drop}
+use Rattle.std.specs.Prelude.{ℕ, zero, suc, ◌+◌, ◌-◌, ◌*◌, ◌/◌, ◌%◌, ◌^◌, ◌≤◌, ◌<◌, ◌≡◌, refl, List, length, drop}
 use Rattle.std.proofs.Common.{arith, one-mul, pow-suc, ◌∙◌, pow-add, shl_exact, Fits}
 use Rattle.std.specs.Int.{w32}
 use borrow.Author.Tests.{lt-ltb, le-ltb, le-leb, lt-leb, eq-eqb, ne_eqb}
@@ -7,7 +7,7 @@ use Rattle.octets.specs.Cases.{split}
 use Rattle.octets.specs.Octets.{octet_at}
 use Rattle.octets.specs.Splice.{stored}
 use Rattle.octets.specs.Word.{le_of, word_of, narrow_word, length-le_of, word-most}
-use Rattle.whole.specs.Number.{Number, Is, Broken, fewest, encode_number, least_of, long_number, number_of}
+use Rattle.whole.specs.Number.{Number, Some, Broken, fewest, encode_number, least_of, long_number, number_of}
 use Rattle.whole.specs.Laws.{number-long, number_short, fewest-most}
 
 -- ---- read_long
@@ -36,7 +36,7 @@ module _ (k : ℕ) (xs : List ℕ) where
         unfolding long_number
         long-padded l = rw (← word-is, ← f, le-ltb k 1 h, le-ltb 4 k i, lt-leb (length xs) k j, lt-ltb n m l)
 
-        pub long-read : m ≤ n → Is n (1 + k) ≡ long_number k xs
+        pub long-read : m ≤ n → Some (n, 1 + k) ≡ long_number k xs
         unfolding long_number
         long-read l = rw (← word-is, ← f, le-ltb k 1 h, le-ltb 4 k i, lt-leb (length xs) k j, le-ltb n m l)
 
@@ -71,7 +71,7 @@ module _ (xs : List ℕ) where
   number-none h = rw (lt-ltb (length xs) 1 h)
 
   module _ (h : 1 ≤ length xs) (a : ℕ) (e : a ≡ octet_at xs 0) where
-    pub number-one : a < 128 → Is a 1 ≡ number_of xs
+    pub number-one : a < 128 → Some (a, 1) ≡ number_of xs
     unfolding number_of
     number-one l = rw (← e, le-ltb (length xs) 1 h, lt-ltb a 128 l)
 

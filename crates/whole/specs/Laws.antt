@@ -1,11 +1,11 @@
 -- The laws of whole numbers, each for any width: what was written is read back, what is read was written so and stands in the list.
-use Rattle.std.specs.Prelude.{ℕ, zero, suc, ◌+◌, ◌-◌, ◌*◌, ◌/◌, ◌%◌, ◌^◌, ◌≤◌, ◌<◌, ◌≡◌, refl, List, [], ◌∷◌, ◌++◌, Bool, true, false, cond, length, drop, ltb, leb, eqb}
+use Rattle.std.specs.Prelude.{ℕ, zero, suc, ◌+◌, ◌-◌, ◌/◌, ◌^◌, ◌≤◌, ◌<◌, ◌≡◌, refl, List, [], ◌∷◌, ◌++◌, Bool, true, false, cond, length, drop, ltb, leb, eqb}
 use Rattle.std.proofs.Common.{pow-suc, arith, sym, ap, ap₂, ◌∙◌, length-append, length-drop, drop-drop, lt-ltb, le-ltb, ne_eqb, ltb-true, ltb-false, leb-false}
 use Rattle.std.proofs.lemmas.Bool.{lt-leb, eqb-false}
 use Rattle.octets.specs.Cases.{split, taken}
 use Rattle.octets.specs.Octets.{octet_at, Octets, octets-drop, front}
 use Rattle.octets.specs.Word.{le_of, word_of, length-le_of, octets-le_of, length-word, word-zero, word-most, word_back, word_small, word_sound}
-use Rattle.whole.specs.Number.{Number, Is, Broken, fewest, encode_number, least_of, long_number, number_of}
+use Rattle.whole.specs.Number.{Number, Some, Broken, fewest, encode_number, least_of, long_number, number_of}
 
 -- ---- the fewest octets that hold a number
 
@@ -94,11 +94,11 @@ pub number_short : (n : ℕ) → n < 128 → encode_number n ≡ n ∷ []
 unfolding encode_number
 number_short n h = rw (lt-ltb n 128 h)
 
-long-is : (k n : ℕ) (xs : List ℕ) → 1 ≤ k → k ≤ 4 → k < length xs → word_of k (drop 1 xs) ≡ n → least_of k ≤ n → long_number k xs ≡ Is n (1 + k)
+long-is : (k n : ℕ) (xs : List ℕ) → 1 ≤ k → k ≤ 4 → k < length xs → word_of k (drop 1 xs) ≡ n → least_of k ≤ n → long_number k xs ≡ Some (n, 1 + k)
 unfolding long_number
 long-is k n xs h i j e l = rw (e, le-ltb k 1 h, le-ltb 4 k i, lt-leb (length xs) k j, le-ltb n (least_of k) l)
 
-long-back : (n k : ℕ) (rest : List ℕ) → 128 ≤ n → n < 2 ^ 32 → fewest 4 n ≡ k → 1 ≤ k → number_of ((128 + k) ∷ (le_of k n ++ rest)) ≡ Is n (1 + k)
+long-back : (n k : ℕ) (rest : List ℕ) → 128 ≤ n → n < 2 ^ 32 → fewest 4 n ≡ k → 1 ≤ k → number_of ((128 + k) ∷ (le_of k n ++ rest)) ≡ Some (n, 1 + k)
 unfolding number_of
 long-back n k rest h l e p =
     let j : ℕ = k - 1 in
@@ -111,12 +111,12 @@ long-back n k rest h l e p =
     rw (le-ltb (length ((128 + k) ∷ (le_of k n ++ rest))) 1 (omega arith), le-ltb (128 + k) 128 (omega arith), c)
     (long-is k n ((128 + k) ∷ (le_of k n ++ rest)) p most (omega arith) (word_back k n holds rest) low)
 
-pub number-back : (n : ℕ) → n < 2 ^ 32 → (rest : List ℕ) → number_of (encode_number n ++ rest) ≡ Is n (length (encode_number n))
+pub number-back : (n : ℕ) → n < 2 ^ 32 → (rest : List ℕ) → number_of (encode_number n ++ rest) ≡ Some (n, length (encode_number n))
 unfolding number_of
 number-back n h rest =
     split n 128
     (λ l. rw (number_short n l, le-ltb (length (n ∷ rest)) 1 (omega arith), lt-ltb n 128 l))
-    (λ l. rw (number-long n l, length-le_of (fewest 4 n) n) (long-back n (fewest 4 n) rest l h refl (some l) ∙ ap (Is n) (omega arith)))
+    (λ l. rw (number-long n l, length-le_of (fewest 4 n) n) (long-back n (fewest 4 n) rest l h refl (some l) ∙ ap (λ w. Some (n, w)) (omega arith)))
   where
     some : 128 ≤ n → 1 ≤ fewest 4 n
     some l = rw (fewest-more 3 n (omega arith)) (omega arith)
@@ -130,10 +130,22 @@ record Long (k : ℕ) (xs : List ℕ) (n w : ℕ) : Type 0 where
   low : least_of k ≤ n
   wide : 1 + k ≡ w
 
-pub no_number : {X : Type 0} {n w : ℕ} → Broken ≡ Is n w → X
+pub no_number : {X : Type 0} {n w : ℕ} → ◌≡◌ {A = Number} Broken (Some (n, w)) → X
 no_number e = let z : ◌≡◌ {A = ℕ} 0 1 = cc in absurd (omega arith)
 
-long-sound : (k : ℕ) (xs : List ℕ) (n w : ℕ) → long_number k xs ≡ Is n w → Long k xs n w
+-- a number that is read is one number, of one width
+pub same-number : {n w m v : ℕ} → ◌≡◌ {A = Number} (Some (n, w)) (Some (m, v)) → (n ≡ m) × (w ≡ v)
+same-number {n} {w} e = (ap (value_of n) e, ap (width_of w) e)
+  where
+    value_of : ℕ → Number → ℕ
+    value_of d (Some (n, w)) = n
+    value_of d Broken = d
+
+    width_of : ℕ → Number → ℕ
+    width_of d (Some (n, w)) = w
+    width_of d Broken = d
+
+long-sound : (k : ℕ) (xs : List ℕ) (n w : ℕ) → long_number k xs ≡ Some (n, w) → Long k xs n w
 unfolding long_number
 long-sound k xs n w e =
     let v : ℕ = word_of k (drop 1 xs) in
@@ -141,31 +153,31 @@ long-sound k xs n w e =
     (λ t₁ q. taken (ltb 4 k) _ _ _ q (λ t q. no_number q)
     (λ t₂ q. taken (leb (length xs) k) _ _ _ q (λ t q. no_number q)
     (λ t₃ q. taken (ltb v (least_of k)) _ _ _ q (λ t q. no_number q)
-    (λ t₄ q. let same : v ≡ n = cc in record {
+    (λ t₄ q. let (same, wide) = same-number q in record {
       few = (ltb-false k 1 t₁, ltb-false 4 k t₂);
       there = leb-false (length xs) k t₃;
       value = same;
       low = rw same at (ltb-false v (least_of k) t₄);
-      wide = cc;
+      wide = wide;
     }))))
 
 -- the two ways to a number
-ways : {X : Type 0} (xs : List ℕ) (n w : ℕ) → number_of xs ≡ Is n w
+ways : {X : Type 0} (xs : List ℕ) (n w : ℕ) → number_of xs ≡ Some (n, w)
     → (1 ≤ length xs → octet_at xs 0 ≡ n → n < 128 → 1 ≡ w → X)
     → (128 ≤ octet_at xs 0 → Long (octet_at xs 0 - 128) xs n w → X) → X
 unfolding number_of
 ways xs n w e f g =
     taken (ltb (length xs) 1) _ _ _ e (λ t q. no_number q)
     (λ t₁ q. taken (ltb (octet_at xs 0) 128) _ _ _ q
-    (λ t₂ q. let same : octet_at xs 0 ≡ n = cc in f (ltb-false (length xs) 1 t₁) same (rw same at (ltb-true (octet_at xs 0) 128 t₂)) (cc))
+    (λ t₂ q. let (same, wide) = same-number q in f (ltb-false (length xs) 1 t₁) same (rw same at (ltb-true (octet_at xs 0) 128 t₂)) wide)
     (λ t₂ q. g (ltb-false (octet_at xs 0) 128 t₂) (long-sound (octet_at xs 0 - 128) xs n w q)))
 
 -- it stands in the list
-pub number-within : (r : Number) (xs : List ℕ) (n w : ℕ) → r ≡ Is n w → r ≡ number_of xs → w ≤ length xs
+pub number-within : (r : Number) (xs : List ℕ) (n w : ℕ) → r ≡ Some (n, w) → r ≡ number_of xs → w ≤ length xs
 number-within r xs n w p z =
     ways xs n w (sym z ∙ p) (λ h e l q. omega arith) (λ h l. omega (arith, l.there, l.wide))
 
-module _ (xs : List ℕ) (o : Octets xs) (n w : ℕ) (e : number_of xs ≡ Is n w) where
+module _ (xs : List ℕ) (o : Octets xs) (n w : ℕ) (e : number_of xs ≡ Some (n, w)) where
   long-small : (k : ℕ) → Long k xs n w → n < 256 ^ k
   long-small k l =
       let t : k ≤ length (drop 1 xs) = rw (length-drop 1 xs) (omega (arith, l.there)) in

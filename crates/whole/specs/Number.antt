@@ -2,8 +2,12 @@
 use Rattle.std.specs.Prelude.{ℕ, zero, suc, ◌+◌, ◌-◌, ◌/◌, ◌^◌, List, [], ◌∷◌, cond, length, drop, ltb, leb, eqb}
 use Rattle.octets.specs.Octets.{octet_at}
 use Rattle.octets.specs.Word.{le_of, word_of}
-pub use Rattle.whole.specs.declared.Number.{Number}
-pub use Rattle.whole.specs.declared.Number.TheVariants.{Is, Broken}
+use Rattle.std.specs.Prelude.{Option}
+pub use Rattle.std.specs.Prelude.{Some, None as Broken}
+
+-- the number and the octets that it takes
+abbrev pub Number : Type 0
+Number = Option (ℕ × ℕ)
 
 -- the fewest octets, of at most m, that hold n
 unfoldable pub fewest : ℕ → ℕ → ℕ
@@ -25,10 +29,10 @@ long_number k xs =
     (cond (ltb 4 k) Broken
     (cond (leb (length xs) k) Broken
     (cond (ltb (word_of k (drop 1 xs)) (least_of k)) Broken
-    (Is (word_of k (drop 1 xs)) (1 + k)))))
+    (Some (word_of k (drop 1 xs), 1 + k)))))
 
 unfoldable pub number_of : List ℕ → Number
 number_of xs =
     cond (ltb (length xs) 1) Broken
-    (cond (ltb (octet_at xs 0) 128) (Is (octet_at xs 0) 1)
+    (cond (ltb (octet_at xs 0) 128) (Some (octet_at xs 0, 1))
     (long_number (octet_at xs 0 - 128) xs))

@@ -8,11 +8,7 @@ ghost use Rattle.whole.specs.Number.{fewest, least_of, long_number, number_of, e
 use octets::{octet, word};
 
 // The number and the octets that it takes.
-#[derive(Clone, Copy)]
-pub enum Number {
-    Is(u32, usize),
-    Broken,
-}
+pub type Number = Option<(u32, usize)>;
 
 // The least number that takes k octets behind the first.
 fn least(k: usize) -> u64
@@ -30,19 +26,19 @@ fn read_long(s: &[u8], k: usize) -> Number
     ensures { result ≡ long_number k s.now }
 {
     if k < 1 {
-        return Number::Broken;
+        return None;
     }
     if 4 < k {
-        return Number::Broken;
+        return None;
     }
     if s.len() <= k {
-        return Number::Broken;
+        return None;
     }
     let n = word(s, 1, k);
     if n < least(k) {
-        return Number::Broken;
+        return None;
     }
-    Number::Is(n as u32, 1 + k)
+    Some((n as u32, 1 + k))
 }
 
 // The whole number at the front of `s`.
@@ -50,26 +46,27 @@ pub fn read_number(s: &[u8]) -> Number
     ensures { result ≡ number_of s.now }
 {
     if s.len() < 1 {
-        return Number::Broken;
+        return None;
     }
     let first = octet(s, 0);
     if first < 128 {
-        return Number::Is(first, 1);
+        return Some((first, 1));
     }
     read_long(s, (first - 128) as usize)
 }
 
 // The octets behind the first that hold n, where n is over 127.
+#[tactic(auto, unfolding(crate::specs::Number::fewest))]
 fn tail(n: u32) -> usize
     ensures { (result ≡ fewest 4 n) × (result ≤ 4) }
 {
-    let mut x = n;
-    let mut k = 0;
-    while 0 < x {
-        x = x >> 8;
-        k += 1;
+    match n {
+        0 => 0,
+        1..=0xFF => 1,
+        0x100..=0xFFFF => 2,
+        0x1_0000..=0xFF_FFFF => 3,
+        _ => 4,
     }
-    k
 }
 
 // The octets that n takes.

@@ -1,30 +1,29 @@
 -- Whose turn it is (document 01, "Writing a book"; decisions 13 to 15): which states a call takes up within a buffer of n octets, and what a verdict on
 -- a call makes of state and octets.
-use Rattle.std.specs.Prelude.{ℕ, ◌+◌, ◌-◌, ◌*◌, ◌≤◌, ◌<◌, ◌≡◌, refl, Bool, true, false, cond, ltb, leb, eqb}
+use Rattle.std.specs.Prelude.{Err, Ok, ℕ, ◌+◌, ◌-◌, ◌*◌, ◌≤◌, ◌<◌, ◌≡◌, refl, Bool, true, false, cond, ltb, leb, eqb}
 use Rattle.std.proofs.Common.{arith, sym, ◌∙◌}
 use borrow.Author.Tests.{lt-ltb, le-ltb, le-leb, lt-leb, eq-eqb, ne_eqb, ltb-false, leb-true, eqb-true, eqb-false}
 use Rattle.answers.specs.Numbers.{breaks_rule, no_room, most_octets, most_columns, most_opened}
-use Rattle.answers.specs.declared.Verdict.{Verdict}
-use Rattle.answers.specs.declared.Verdict.TheVariants.{Clear as clear, Refused}
+use Rattle.answers.specs.Verdict.{Verdict}
+use Rattle.answers.specs.Verdict.{clear, Refused}
 use Rattle.answers.specs.Verdict.{refused, ◌then◌, need, apart, unmet}
 use Rattle.answers.specs.declared.Refusal.{Refusal}
 use Rattle.presence.specs.Presence.{room}
 use Rattle.writing.specs.declared.Writing.{Writing}
 use Rattle.writing.specs.declared.Outcome.{Outcome}
-use Rattle.writing.specs.declared.Written.TheVariants as written
 use Rattle.octets.specs.Cases.{passed}
 
 -- ---- what a verdict makes of a call
 
 abbrev pub done_with : Writing → Outcome
-done_with st = record { answer = written.Done st.written; state = st }
+done_with st = record { answer = Ok st.written; state = st }
 
 -- a refused call leaves the state
 abbrev pub refused_with : Refusal → Writing → Outcome
-refused_with r st = record { answer = written.Refused r; state = st }
+refused_with r st = record { answer = Err r; state = st }
 
 abbrev pub settled : Verdict → Writing → Writing → Outcome
-settled clear before behind = done_with behind
+settled (Ok _) before behind = done_with behind
 settled (Refused r) before behind = refused_with r before
 
 -- ---- the states

@@ -1,5 +1,5 @@
-// A writing in progress: a small state of plain numbers that goes from call to call, and what every call asks of it first. The tables stand in the
-// written octets. Which states are out of turn, whatever the call, is decision 13.
+// A writing in progress: a small state of plain numbers that goes from call to call, and what every call asks of it
+// first. The tables stand in the written octets. Which states are out of turn, whatever the call, is decision 13.
 #![tactic(auto)]
 
 ghost use Rattle.std.specs.Prelude.{◌≡◌, ◌+◌, ◌-◌, ◌*◌, ◌≤◌};
@@ -7,11 +7,10 @@ ghost use Rattle.answers.specs.Numbers.{most_octets, most_columns};
 ghost use Rattle.writing.specs.State.{columns_of, sane_of, idle_of, framed_of, within_of, room_at, settled};
 ghost use Rattle.writing.specs.Column.{row_from, column_for};
 
-use answers::{Refusal, Verdict, refuse};
+use answers::{Answer, Verdict, refuse};
 use octets::word32;
-use table::Found;
 
-// The stages of a writing.
+// The stages of a writing. They are numbers, as the form is, since a caller may hand in any: calls for C do.
 pub const IN_PROGRESS: u8 = 0;
 
 pub const FINISHED: u8 = 1;
@@ -36,17 +35,11 @@ pub struct Writing {
     pub stage: u8,
 }
 
-// The octets written, or the refusal.
-#[derive(Clone, Copy)]
-pub enum Written {
-    Done(usize),
-    Refused(Refusal),
-}
-
-// What a call answers, and the state to hand to the next one.
+// What a call answers, the octets written or the refusal, and the state to hand to the next one. A refused call hands on a
+// state too, so the two stand side by side.
 #[derive(Clone, Copy)]
 pub struct Outcome {
-    pub answer: Written,
+    pub answer: Answer<usize>,
     pub state: Writing,
 }
 
@@ -55,12 +48,12 @@ pub fn settle(verdict: Verdict, before: Writing, behind: Writing) -> Outcome
     ensures { result ≡ settled verdict before behind }
 {
     match verdict {
-        Verdict::Clear => Outcome {
-            answer: Written::Done(behind.written),
+        Ok(()) => Outcome {
+            answer: Ok(behind.written),
             state: behind,
         },
-        Verdict::Refused(r) => Outcome {
-            answer: Written::Refused(r),
+        Err(r) => Outcome {
+            answer: Err(r),
             state: before,
         },
     }
@@ -74,78 +67,46 @@ pub fn columns_of(st: Writing, k: usize) -> usize
 }
 
 // Whether calls can leave the state in a buffer of n octets, as far as its tables and its lengths go.
+#[tactic(auto, unfolding(crate::specs::State::sane_of))]
 fn sane(st: Writing, n: usize) -> bool
     ensures { result ≡ sane_of st n }
 {
-    if st.stage != IN_PROGRESS {
-        return false;
-    }
-    if n < st.written {
-        return false;
-    }
-    if answers::MOST_OCTETS < st.written {
-        return false;
-    }
-    if answers::MOST_COLUMNS < st.header {
-        return false;
-    }
-    if answers::MOST_COLUMNS < st.address {
-        return false;
-    }
-    if st.written < 24 + 8 * (st.header + st.address) {
-        return false;
-    }
-    if answers::MOST_OPENED < st.opened {
-        return false;
-    }
-    true
+    st.stage == IN_PROGRESS
+        && st.written <= n
+        && st.written <= answers::MOST_OCTETS
+        && st.header <= answers::MOST_COLUMNS
+        && st.address <= answers::MOST_COLUMNS
+        && 24 + 8 * (st.header + st.address) <= st.written
+        && st.opened <= answers::MOST_OPENED
 }
 
 // Whether the state is one between records.
+#[tactic(auto, unfolding(crate::specs::State::idle_of))]
 pub fn idle(st: Writing, n: usize) -> bool
     ensures { result ≡ idle_of st n }
 {
-    if st.start == 0 {
-        return sane(st, n);
-    }
-    false
+    st.start == 0 && sane(st, n)
 }
 
 // Whether a record of k columns is open, and stands where one can.
+#[tactic(auto, unfolding(crate::specs::State::framed_of))]
 fn framed(st: Writing, k: usize) -> bool
     requires { (st.header ≤ most_columns) × (st.address ≤ most_columns) × (k ≤ most_columns) }
     ensures { result ≡ framed_of st k }
 {
-    if st.start == 0 {
-        return false;
-    }
-    if st.opened == 0 {
-        return false;
-    }
-    if st.start < 24 + 8 * (st.header + st.address) {
-        return false;
-    }
-    if st.written < st.start {
-        return false;
-    }
-    if st.written - st.start < 4 + presence::octets_for(k) {
-        return false;
-    }
-    if k < st.next {
-        return false;
-    }
-    true
+    st.start != 0
+        && st.opened != 0
+        && 24 + 8 * (st.header + st.address) <= st.start
+        && st.start <= st.written
+        && 4 + presence::octets_for(k) <= st.written - st.start
+        && st.next <= k
 }
 
 // Whether the state is one inside a record.
 pub fn within(st: Writing, n: usize) -> bool
     ensures { result ≡ within_of st n }
 {
-    if sane(st, n) {
-        let k = columns_of(st, st.opened);
-        return framed(st, k);
-    }
-    false
+    sane(st, n) && framed(st, columns_of(st, st.opened))
 }
 
 // Whether k more octets are let in behind the written ones: by the limit, then by the buffer of n octets.
@@ -164,36 +125,34 @@ pub fn judge_room(written: usize, n: usize, k: usize) -> Verdict
     if n - written < k {
         return refuse(answers::NO_ROOM, 0);
     }
-    Verdict::Clear
+    Ok(())
 }
 
 // The row with a whole tag, of n rows from row `from` on; row 0 stands at `base`.
-fn find_row(buf: &[u8], base: usize, from: usize, n: usize, tag: u32) -> Found
+fn find_row(buf: &[u8], base: usize, from: usize, n: usize, tag: u32) -> Option<usize>
     requires { (base ≤ most_octets) × (n ≤ most_columns) }
     ensures { result ≡ row_from buf.now base tag (n - from) from }
 {
-    let mut i = from;
-    while i < n {
+    for i in from..n {
         if word32(buf, base + 8 * i) == tag {
-            return Found::At(i);
+            return Some(i);
         }
-        i += 1;
     }
-    Found::Nothing
+    None
 }
 
 // The column that a value may be given to next, by its whole tag: not passed, and no list left unfinished.
-pub fn find_column(st: Writing, buf: &[u8], tag: u32) -> Found
+pub fn find_column(st: Writing, buf: &[u8], tag: u32) -> Option<usize>
     ensures { result ≡ column_for st buf.now tag }
 {
     if within(st, buf.len()) {
         if st.left != 0 {
-            return Found::Nothing;
+            return None;
         }
         if st.opened == 1 {
             return find_row(buf, 20, st.next, st.header, tag);
         }
         return find_row(buf, 24 + 8 * st.header, st.next, st.address, tag);
     }
-    Found::Nothing
+    None
 }

@@ -24,7 +24,7 @@ pub put_table-requires-2 : goal.put_table-requires-2
 put_table-requires-2 c = let k = begin-keeps c.args.htags.now c.args.hflags.now c.args.tags.now c.args.flags.now c.args.buf.now _ c.judge_begin-v.ensures (search rules) in (k.rows, k.low, omega (arith, c.put_head.auto.buf, c.put_table.auto.buf))
 
 pub begun-next-requires : goal.begun-next-requires
-begun-next-requires c = let k = begin-keeps c.args.htags.now c.args.hflags.now c.args.tags.now c.args.flags.now c.args.buf.now _ c.judge_begin-v.ensures c.in-Clear.is in (k.few, k.low)
+begun-next-requires c = let k = begin-keeps c.args.htags.now c.args.hflags.now c.args.tags.now c.args.flags.now c.args.buf.now _ c.judge_begin-v.ensures c.in-Ok.is in (k.few, k.low)
 
 pub returns : goal.returns
-returns c = (begin-done c.args.htags.now c.args.hflags.now c.args.tags.now c.args.flags.now c.args.buf.now _ c.judge_begin-v.ensures c.in-Clear.is _ _ _ c.begun-next.ensures c.settle-2.ensures, begin-put c.args.htags.now c.args.hflags.now c.args.tags.now c.args.flags.now c.args.buf.now _ c.judge_begin-v.ensures c.in-Clear.is _ _ _ c.put_head.ensures c.put_table.ensures c.put_table-2.ensures)
+returns c = (begin-done c.args.htags.now c.args.hflags.now c.args.tags.now c.args.flags.now c.args.buf.now _ c.judge_begin-v.ensures c.in-Ok.is _ _ _ c.begun-next.ensures c.settle-2.ensures, begin-put c.args.htags.now c.args.hflags.now c.args.tags.now c.args.flags.now c.args.buf.now _ c.judge_begin-v.ensures c.in-Ok.is _ _ _ c.put_head.ensures c.put_table.ensures c.put_table-2.ensures)

@@ -1,5 +1,5 @@
 use Rattle.std.proofs.Common.{rules}
-use Rattle.correcting.specs.Find.{find-broken, find-lost, find-found, find-start, find-in, find-next, find-fits}
+use Rattle.correcting.specs.Find.{find-broken, find-last, find-start, find-in, find-next, find-fits}
 use Rattle.correcting.proofs.find_value.Goals as goal
 
 pub loop-j-init : goal.loop-j-init
@@ -14,8 +14,5 @@ overflow_add-i c = search find-fits
 pub loop-j-preserved : goal.loop-j-preserved
 loop-j-preserved c = (search find-in, search rules, search find-next)
 
-pub returns-in_default-walk_column : goal.returns-in_default-walk_column
-returns-in_default-walk_column c = find-lost c.args.forms.now c.args.p.now c.args.s.now c.args.c c.args.at c.loop-j.i c.loop-j.j c.loop-j.invariant.2 (search rules) c.loop-j.invariant.1 c.requires.0 _ c.walk_column-2.ensures _ c.in_default-walk_column.is
-
 pub returns : goal.returns
-returns c = search find-found
+returns c = search find-last

@@ -8,8 +8,5 @@ returns-then-not-has c = (search widths, search (rules, widths))
 pub returns-then-is_short : goal.returns-then-is_short
 returns-then-is_short c = (search widths, search (rules, widths))
 
-pub returns-in_default : goal.returns-in_default
-returns-in_default c = (search widths, search (rules, widths))
-
 pub returns : goal.returns
 returns c = (search widths, search (rules, widths))

@@ -5,11 +5,11 @@ use Rattle.entry.proofs.judge_values.Goals as goal
 pub loop-j-init : goal.loop-j-init
 loop-j-init c = (search rules, search rules, search values-start)
 
-pub overflow_add-at-in-Broken : goal.overflow_add-at-in-Broken
-overflow_add-at-in-Broken c = search break-fits
+pub overflow_add-at-in-Err : goal.overflow_add-at-in-Err
+overflow_add-at-in-Err c = search break-fits
 
-pub returns-in-Broken : goal.returns-in-Broken
-returns-in-Broken c = search values
+pub returns-in-Err : goal.returns-in-Err
+returns-in-Err c = search values
 
 pub overflow_add-i : goal.overflow_add-i
 overflow_add-i c = search value-fits

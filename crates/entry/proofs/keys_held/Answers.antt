@@ -1,8 +1,7 @@
-use Rattle.entry.specs.Cases.{helds}
+use Rattle.std.proofs.Common.{ap, ◌∙◌}
+use Rattle.entry.specs.Record.{is_clear}
+use Rattle.entry.specs.Cases.{clear-held}
 use Rattle.entry.proofs.keys_held.Goals as goal
 
-pub returns-in_default : goal.returns-in_default
-returns-in_default c = search helds
-
 pub returns : goal.returns
-returns c = search helds
+returns c = c.is_ok.ensures.value ∙ clear-held _ ∙ ap is_clear c.judge_keys.ensures

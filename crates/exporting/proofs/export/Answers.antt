@@ -1,12 +1,15 @@
-use Rattle.std.proofs.Common.{rules}
-use Rattle.exporting.proofs.Cases.{export_cases, book-short, first-near, count-few, tags-reach, forms-reach}
+use Rattle.answers.specs.Verdict.{passed-on}
+use Rattle.exporting.proofs.Cases.{book_keeps, export_cases}
 use Rattle.exporting.proofs.export.Goals as goal
 
+pub returns-in_err-j : goal.returns-in_err-j
+returns-in_err-j c = (
+  passed-on _ c.from_residual.ensures.1 (search (export_cases, c.in_err-j.was)),
+  search (export_cases, c.in_err-j.was),
+)
+
 pub export_good-requires : goal.export_good-requires
-export_good-requires c = (search book-short, search first-near, search count-few, search tags-reach, search forms-reach)
+export_good-requires c = search (book_keeps, c.in_ok-j.was)
 
-pub returns-in-Refused : goal.returns-in-Refused
-returns-in-Refused c = search (rules, export_cases)
-
-pub returns-in-Good : goal.returns-in-Good
-returns-in-Good c = search (rules, export_cases)
+pub returns : goal.returns
+returns c = search (export_cases, c.in_ok-j.was)

@@ -5,9 +5,6 @@ use Rattle.exporting.proofs.write_good.Goals as goal
 pub put_tags-at-requires : goal.put_tags-at-requires
 put_tags-at-requires c = search (rules, write_cases)
 
-pub slice_bounds-put_lines-end-2 : goal.slice_bounds-put_lines-end-2
-slice_bounds-put_lines-end-2 c = search (rules, write_cases)
-
 pub put_lines-requires : goal.put_lines-requires
 put_lines-requires c = (search rules, search rules, search write-lines)
 

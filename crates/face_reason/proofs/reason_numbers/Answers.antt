@@ -13,5 +13,5 @@ returns-in-Listed c = search numbers
 pub returns-in-NotListed : goal.returns-in-NotListed
 returns-in-NotListed c = search numbers
 
-pub returns-in-Refused : goal.returns-in-Refused
-returns-in-Refused c = search numbers
+pub returns-in-Err : goal.returns-in-Err
+returns-in-Err c = search numbers

@@ -9,7 +9,7 @@ pub returns-in_default : goal.returns-in_default
 returns-in_default c = search adding
 
 pub behind_element-behind-requires : goal.behind_element-behind-requires
-behind_element-behind-requires c = (adds _ _ _ _ c.judge_size-verdict.ensures c.in-Clear.is, omega arith)
+behind_element-behind-requires c = (adds _ _ _ _ c.judge_size-verdict.ensures c.in-Ok.is, omega arith)
 
 pub returns-then-within : goal.returns-then-within
 returns-then-within c = search adding

@@ -1,24 +1,17 @@
 use Rattle.std.proofs.Common.{rules}
-use Rattle.importing.specs.Cases.{give_cases, give-clear, give-refused, give-left, give-done, give-written}
+use Rattle.answers.specs.Verdict.{passed-on}
+use Rattle.importing.specs.Cases.{give-clear, give-refused, give-left, give-done, give-written}
 use Rattle.importing.proofs.give_book.Goals as goal
 
-pub judge_given-v-requires : goal.judge_given-v-requires
-judge_given-v-requires c = search (rules, give_cases)
-
-pub enum_known-v : goal.enum_known-v
-enum_known-v c = search (rules, give_cases)
-
-pub returns-in-Refused : goal.returns-in-Refused
-returns-in-Refused c = (search give-refused, search give-left)
-
-pub enum_told-1 : goal.enum_told-1
-enum_told-1 c = search (rules, give_cases)
+pub returns-in_err-judge_given : goal.returns-in_err-judge_given
+returns-in_err-judge_given c = (
+  passed-on _ c.from_residual.ensures.1 (search (give-refused, c.in_err-judge_given.was)),
+  search (give-left, c.in_err-judge_given.was),
+)
 
 pub write_book-requires : goal.write_book-requires
-write_book-requires c = (search rules, search rules, search rules, search rules, search give-clear)
-
-pub shape_of-out : goal.shape_of-out
-shape_of-out c = search (rules, give_cases)
+write_book-requires c =
+    (search rules, search rules, search rules, search rules, search (give-clear, c.in_ok-judge_given.was))
 
 pub returns : goal.returns
-returns c = (search give-done, search give-written)
+returns c = (search (give-done, c.in_ok-judge_given.was), search (give-written, c.in_ok-judge_given.was))

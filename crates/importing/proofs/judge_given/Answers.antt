@@ -1,36 +1,19 @@
 use Rattle.std.proofs.Common.{rules}
+use Rattle.answers.specs.Verdict.{passed-on}
 use Rattle.importing.specs.Cases.{given_cases}
 use Rattle.importing.proofs.judge_given.Goals as goal
 
-pub judge_begin-v-requires : goal.judge_begin-v-requires
-judge_begin-v-requires c = search (rules, given_cases)
-
-pub enum_told-1 : goal.enum_told-1
-enum_told-1 c = search (rules, given_cases)
-
-pub enum_told-in_default : goal.enum_told-in_default
-enum_told-in_default c = search (rules, given_cases)
-
-pub returns-in_default : goal.returns-in_default
-returns-in_default c = search (rules, given_cases)
+pub returns-in_err-judge_begin : goal.returns-in_err-judge_begin
+returns-in_err-judge_begin c = passed-on _ c.from_residual.ensures.1 (search (given_cases, c.in_err-judge_begin.was))
 
 pub forms_of-forms-requires : goal.forms_of-forms-requires
-forms_of-forms-requires c = search (rules, given_cases)
+forms_of-forms-requires c = search (rules, given_cases, c.in_ok-judge_begin.was)
 
 pub start_size-w-requires : goal.start_size-w-requires
-start_size-w-requires c = search (rules, given_cases)
-
-pub slice_bounds-judge_records-count : goal.slice_bounds-judge_records-count
-slice_bounds-judge_records-count c = search (rules, given_cases)
-
-pub slice_bounds-judge_records-start : goal.slice_bounds-judge_records-start
-slice_bounds-judge_records-start c = search (rules, given_cases)
+start_size-w-requires c = search (rules, given_cases, c.in_ok-judge_begin.was)
 
 pub slice_bounds-judge_records-end : goal.slice_bounds-judge_records-end
-slice_bounds-judge_records-end c = search (rules, given_cases)
-
-pub judge_records-requires : goal.judge_records-requires
-judge_records-requires c = search (rules, given_cases)
+slice_bounds-judge_records-end c = search (rules, given_cases, c.in_ok-judge_begin.was)
 
 pub returns : goal.returns
-returns c = search (rules, given_cases)
+returns c = search (rules, given_cases, c.in_ok-judge_begin.was)

@@ -8,8 +8,5 @@ lay_down-records-requires c = search (rules, write_cases)
 pub finish_book-requires : goal.finish_book-requires
 finish_book-requires c = search (rules, write_cases)
 
-pub shape_of-out : goal.shape_of-out
-shape_of-out c = search (rules, write_cases)
-
 pub returns : goal.returns
 returns c = (search write-long, search write-octets)

@@ -1,18 +1,21 @@
-use Rattle.std.proofs.Common.{arith, rules}
-use Rattle.inserting.specs.Cases.{insert-judged, address-reach, gap-refused, gap-few, gap-insert}
+use Rattle.std.proofs.Common.{arith}
+use Rattle.answers.specs.Verdict.{passed-on}
+use Rattle.inserting.specs.Cases.{insert-judged, book-short, gap-refused, gap-few, gap-insert}
 use Rattle.inserting.proofs.plan_insert.Goals as goal
 
-pub judge_insert-verdict-requires : goal.judge_insert-verdict-requires
-judge_insert-verdict-requires c = address-reach _ _ c.judge-j.ensures _ _ _ _ c.in-Good.is
+pub returns-in_err-j : goal.returns-in_err-j
+returns-in_err-j c = passed-on _ c.from_residual.ensures.1 (search (insert-judged, c.in_err-j.was))
 
-pub returns-in_default : goal.returns-in_default
-returns-in_default c = search gap-refused
+pub judge_insert-requires : goal.judge_insert-requires
+judge_insert-requires c = book-short _ _ c.judge.ensures _ c.in_ok-j.was
+
+pub returns-in_err-judge_insert : goal.returns-in_err-judge_insert
+returns-in_err-judge_insert c =
+    passed-on _ c.from_residual-in_err-judge_insert.ensures.1
+    (search (gap-refused, c.in_ok-j.was, c.in_err-judge_insert.was))
 
 pub overflow_add-result : goal.overflow_add-result
-overflow_add-result c = let f = gap-few _ _ c.judge-j.ensures _ _ _ _ c.in-Good.is _ _ _ _ c.judge_insert-verdict.ensures (search rules) in record { fits = omega (arith, f.1) }
+overflow_add-result c = let f = gap-few _ _ c.judge.ensures _ c.in_ok-j.was _ _ _ _ c.judge_insert.ensures c.in_ok-judge_insert.was in record { fits = omega (arith, f.1) }
 
-pub returns-in-Refused : goal.returns-in-Refused
-returns-in-Refused c = search insert-judged
-
-pub returns-in-Clear : goal.returns-in-Clear
-returns-in-Clear c = search gap-insert
+pub returns : goal.returns
+returns c = search (gap-insert, c.in_ok-j.was, c.in_ok-judge_insert.was)

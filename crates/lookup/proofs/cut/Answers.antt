@@ -1,21 +1,21 @@
 use Rattle.std.proofs.Common.{arith}
-use Rattle.lookup.specs.Within.{cuts}
+use Rattle.lookup.specs.Within.{cuts, within-there}
 use Rattle.lookup.proofs.cut.Goals as goal
 
-pub slice_bounds-result-count : goal.slice_bounds-result-count
-slice_bounds-result-count c = let l = c.requires _ _ c.in-At.is in omega arith
+pub returns-in_default : goal.returns-in_default
+returns-in_default c = search cuts
 
-pub slice_bounds-result-start : goal.slice_bounds-result-start
-slice_bounds-result-start c = let l = c.requires _ _ c.in-At.is in omega arith
+pub slice_bounds-result-count-in-Some : goal.slice_bounds-result-count-in-Some
+slice_bounds-result-count-in-Some c = let l = within-there _ _ c.requires _ c.in-Ok.is _ _ c.in-Some.is in omega arith
 
-pub slice_bounds-result-end : goal.slice_bounds-result-end
-slice_bounds-result-end c = let l = c.requires _ _ c.in-At.is in omega arith
+pub slice_bounds-result-start-in-Some : goal.slice_bounds-result-start-in-Some
+slice_bounds-result-start-in-Some c = let l = within-there _ _ c.requires _ c.in-Ok.is _ _ c.in-Some.is in omega arith
 
-pub returns-in-At : goal.returns-in-At
-returns-in-At c = search cuts
+pub slice_bounds-result-end-in-Some : goal.slice_bounds-result-end-in-Some
+slice_bounds-result-end-in-Some c = let l = within-there _ _ c.requires _ c.in-Ok.is _ _ c.in-Some.is in omega arith
 
-pub returns-in-Absent : goal.returns-in-Absent
-returns-in-Absent c = search cuts
+pub returns-in-Some : goal.returns-in-Some
+returns-in-Some c = search cuts
 
-pub returns-in-Refused : goal.returns-in-Refused
-returns-in-Refused c = search cuts
+pub returns-in-None : goal.returns-in-None
+returns-in-None c = search cuts

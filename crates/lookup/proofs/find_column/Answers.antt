@@ -1,15 +1,12 @@
-use Rattle.std.proofs.Common.{rules}
-use Rattle.lookup.specs.Cases.{finds}
+use Rattle.std.proofs.Common.{◌∙◌, rules, tests}
+use Rattle.std.proofs.lemmas.Iterator.{YieldsList-from_slice}
+use Rattle.std.proofs.lemmas.Iterator.Search.{position_from_yields_List}
+use Rattle.std.specs.Prelude.{eqb}
+use Rattle.lookup.specs.Cases.{column-found}
 use Rattle.lookup.proofs.find_column.Goals as goal
 
-pub loop-i-init : goal.loop-i-init
-loop-i-init c = search (rules, finds)
-
-pub returns-then-tag-tags : goal.returns-then-tag-tags
-returns-then-tag-tags c = search (rules, finds)
-
-pub loop-i-preserved : goal.loop-i-preserved
-loop-i-preserved c = search (rules, finds)
-
 pub returns : goal.returns
-returns c = search (rules, finds)
+returns c =
+    position_from_yields_List (eqb c.args.tag) _ _ c.position.result c.position.ensures.ran
+    (YieldsList-from_slice c.args.tags.now cc) (λ x b q k. search (rules, tests))
+    ∙ column-found c.args.tag c.args.tags.now

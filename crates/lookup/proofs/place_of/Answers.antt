@@ -1,14 +1,15 @@
+use Rattle.answers.specs.Verdict.{passed-on}
 use Rattle.lookup.specs.PlaceCases.{placeds, limits}
 use Rattle.lookup.proofs.place_of.Goals as goal
 
-pub place_number-requires : goal.place_number-requires
-place_number-requires c = limits _ _ c.judge-j.ensures _ _ _ _ c.in-Good.is
+pub returns-in_err-j : goal.returns-in_err-j
+returns-in_err-j c = passed-on _ c.from_residual.ensures.1 (search (placeds, c.in_err-j.was))
 
-pub returns-in-Refused : goal.returns-in-Refused
-returns-in-Refused c = search placeds
+pub place_number-requires : goal.place_number-requires
+place_number-requires c = limits _ _ c.judge.ensures _ c.in_ok-j.was
 
 pub returns-in-Header : goal.returns-in-Header
-returns-in-Header c = search placeds
+returns-in-Header c = search (placeds, c.in_ok-j.was)
 
 pub returns-in-Number : goal.returns-in-Number
-returns-in-Number c = search placeds
+returns-in-Number c = search (placeds, c.in_ok-j.was)

@@ -24,7 +24,7 @@ pub returns-in_default-walk_value : goal.returns-in_default-walk_value
 returns-in_default-walk_value c = search seeks
 
 pub overflow_add-result-3 : goal.overflow_add-result-3
-overflow_add-result-3 c = found-fits _ c.args.s.now c.args.at c.loop-j.i _ c.walk_value.ensures _ c.in-Ends-walk_value.is c.loop-j.invariant.0 c.requires
+overflow_add-result-3 c = found-fits _ c.args.s.now c.args.at c.loop-j.i _ c.walk_value.ensures _ c.in-Ok-walk_value.is c.loop-j.invariant.0 c.requires
 
 pub returns : goal.returns
 returns c = search seeks

@@ -1,21 +1,14 @@
-use Rattle.std.proofs.Common.{rules}
-use Rattle.presence.specs.Count.{counting}
+use Rattle.std.proofs.Common.{arith, rules}
+use Rattle.presence.specs.Count.{sum_fits, sum_count}
 use Rattle.presence.proofs.count.Goals as goal
 
-pub overflow_cast-k-in-loop-at : goal.overflow_cast-k-in-loop-at
-overflow_cast-k-in-loop-at c = search (rules, counting)
-
-pub overflow_add-k : goal.overflow_add-k
-overflow_add-k c = search (rules, counting)
-
-pub loop-at-preserved : goal.loop-at-preserved
-loop-at-preserved c = search (rules, counting)
-
-pub overflow_cast-result : goal.overflow_cast-result
-overflow_cast-result c = search (rules, counting)
+pub ones-requires : goal.ones-requires
+ones-requires c = search (rules, sum_fits)
 
 pub overflow_add-result : goal.overflow_add-result
-overflow_add-result c = search (rules, counting)
+overflow_add-result c =
+    let most = (sum_count _ c.args.n _ c.type_inv.s c.min.ensures _ _ c.ones.ensures c.octet.ensures.0 c.octet.ensures.1).1 in
+    record { fits = omega (arith, c.ranges.n) }
 
 pub returns : goal.returns
-returns c = search (rules, counting)
+returns c = sum_count _ c.args.n _ c.type_inv.s c.min.ensures _ _ c.ones.ensures c.octet.ensures.0 c.octet.ensures.1

@@ -1,15 +1,13 @@
-use Rattle.std.proofs.Common.{rules}
-use Rattle.reason.specs.Cases.{halves}
+use Rattle.std.proofs.Common.{◌∙◌, rules, tests}
+use Rattle.std.proofs.lemmas.Iterator.{YieldsList-from_slice}
+use Rattle.std.proofs.lemmas.Iterator.Search.{position_from_yields_List}
+use Rattle.std.specs.Prelude.{eqb}
+use Rattle.reason.specs.Why.{upper}
+use Rattle.reason.specs.Cases.{half-found}
 use Rattle.reason.proofs.find_half.Goals as goal
 
-pub loop-i-init : goal.loop-i-init
-loop-i-init c = search (rules, halves)
-
-pub returns-then-tag-tags : goal.returns-then-tag-tags
-returns-then-tag-tags c = search (rules, halves)
-
-pub loop-i-preserved : goal.loop-i-preserved
-loop-i-preserved c = search (rules, halves)
-
 pub returns : goal.returns
-returns c = search (rules, halves)
+returns c =
+    position_from_yields_List (λ x. eqb (upper c.args.tag) (upper x)) _ _ c.position.result c.position.ensures.ran
+    (YieldsList-from_slice c.args.tags.now cc) (λ x b q k. search (rules, tests))
+    ∙ half-found c.args.tag c.args.tags.now

@@ -5,7 +5,4 @@ use Rattle.table.specs.Table.{columns_of}
 use Rattle.table.proofs.fill.Given as goal
 
 abbrev pub invariant-loop-i : goal.invariant-loop-i
-invariant-loop-i l = (l.i ≤ l.n) × (l.at + 8 * l.i ≤ length l.book) × (l.tags ≡ padded (tags_of (columns_of l.i (drop l.at l.book)))) × (l.flags ≡ padded (bits_of (columns_of l.i (drop l.at l.book)))) × (l.forms ≡ padded (forms_of (columns_of l.i (drop l.at l.book)))) × (plain_at (l.n - l.i) (l.at + 8 * l.i) (drop (l.at + 8 * l.i) l.book) ≡ plain_at l.n l.at (drop l.at l.book)) × (l.i + read_to (l.n - l.i) (l.at + 8 * l.i) (drop (l.at + 8 * l.i) l.book) ≡ read_to l.n l.at (drop l.at l.book))
-
-abbrev pub decreases-loop-i : goal.decreases-loop-i
-decreases-loop-i l = l.n - l.i
+invariant-loop-i l = (l.i ≤ l.n) × (l.at + 8 * l.i ≤ length l.book) × (l.columns.count ≡ l.i) × (l.columns.tags ≡ padded (tags_of (columns_of l.i (drop l.at l.book)))) × (l.columns.flags ≡ padded (bits_of (columns_of l.i (drop l.at l.book)))) × (l.columns.forms ≡ padded (forms_of (columns_of l.i (drop l.at l.book)))) × (plain_at (l.n - l.i) (l.at + 8 * l.i) (drop (l.at + 8 * l.i) l.book) ≡ plain_at l.n l.at (drop l.at l.book)) × (l.i + read_to (l.n - l.i) (l.at + 8 * l.i) (drop (l.at + 8 * l.i) l.book) ≡ read_to l.n l.at (drop l.at l.book))

@@ -1,5 +1,5 @@
 use Rattle.std.proofs.Common.{rules}
-use Rattle.table.specs.Cases.{reads, tags-hold}
+use Rattle.table.specs.Cases.{reads}
 use Rattle.table.proofs.read_table.Goals as goal
 
 pub returns-then-book-at : goal.returns-then-book-at
@@ -12,7 +12,7 @@ pub returns-then-n-gt-MOST_COLUMNS : goal.returns-then-n-gt-MOST_COLUMNS
 returns-then-n-gt-MOST_COLUMNS c = search (rules, reads)
 
 pub settle-requires : goal.settle-requires
-settle-requires c = (search tags-hold, search rules)
+settle-requires c = search rules
 
 pub returns : goal.returns
 returns c = search (rules, reads)

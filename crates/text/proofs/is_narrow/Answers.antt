@@ -1,15 +1,9 @@
 use Rattle.std.proofs.Common.{rules}
-use Rattle.text.specs.Cases.{bare}
+use Rattle.text.specs.Cases.{bare_none, bare_some}
 use Rattle.text.proofs.is_narrow.Goals as goal
 
-pub returns-then-s-eq0 : goal.returns-then-s-eq0
-returns-then-s-eq0 c = search bare
+pub returns-then-not-is_empty : goal.returns-then-not-is_empty
+returns-then-not-is_empty c = search (rules, bare_some)
 
-pub returns-then-s-i-eq0 : goal.returns-then-s-i-eq0
-returns-then-s-i-eq0 c = search bare
-
-pub loop-i-preserved : goal.loop-i-preserved
-loop-i-preserved c = search (rules, bare)
-
-pub returns : goal.returns
-returns c = search bare
+pub returns-else-not-is_empty : goal.returns-else-not-is_empty
+returns-else-not-is_empty c = search (rules, bare_none)

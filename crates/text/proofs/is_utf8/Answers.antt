@@ -1,18 +1,8 @@
-use Rattle.std.proofs.Common.{rules}
-use Rattle.text.specs.Cases.{chars}
+use Rattle.text.specs.Cases.{chars-all, chars-empty}
 use Rattle.text.proofs.is_utf8.Goals as goal
 
 pub returns-then-s-eq0 : goal.returns-then-s-eq0
-returns-then-s-eq0 c = search chars
-
-pub returns-then-s-i-eq0 : goal.returns-then-s-i-eq0
-returns-then-s-i-eq0 c = search chars
-
-pub returns-then-k-eq0 : goal.returns-then-k-eq0
-returns-then-k-eq0 c = search chars
-
-pub loop-i-preserved : goal.loop-i-preserved
-loop-i-preserved c = search (rules, chars)
+returns-then-s-eq0 c = search chars-empty
 
 pub returns : goal.returns
-returns c = search chars
+returns c = chars-all _ _ c.chars.ensures.to c.chars.ensures.stop c.if-s-eq0.false

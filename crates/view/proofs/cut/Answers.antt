@@ -1,5 +1,8 @@
-use Rattle.view.specs.Cut.{cut_at}
+use Rattle.view.specs.Cut.{cut_at, cut-none}
 use Rattle.view.proofs.cut.Goals as goal
 
-pub returns-in-At : goal.returns-in-At
-returns-in-At c = search cut_at
+pub returns-in-Some : goal.returns-in-Some
+returns-in-Some c = search cut_at
+
+pub returns-in-None : goal.returns-in-None
+returns-in-None c = search cut-none

@@ -4,6 +4,3 @@ use Rattle.writing.proofs.find_row.Given as goal
 
 abbrev pub invariant-loop-i : goal.invariant-loop-i
 invariant-loop-i l = row_from l.buf l.base l.tag (l.n - l.i) l.i ≡ row_from l.buf l.base l.tag (l.n - l.from) l.from
-
-abbrev pub decreases-loop-i : goal.decreases-loop-i
-decreases-loop-i l = l.n - l.i

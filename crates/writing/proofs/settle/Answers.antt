@@ -1,8 +1,8 @@
 use Rattle.writing.specs.State.{settle-done, settle-refused}
 use Rattle.writing.proofs.settle.Goals as goal
 
-pub returns-in-Clear : goal.returns-in-Clear
-returns-in-Clear c = search settle-done
+pub returns-in-Ok : goal.returns-in-Ok
+returns-in-Ok c = search settle-done
 
-pub returns-in-Refused : goal.returns-in-Refused
-returns-in-Refused c = search settle-refused
+pub returns-in-Err : goal.returns-in-Err
+returns-in-Err c = search settle-refused

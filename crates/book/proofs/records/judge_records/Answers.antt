@@ -1,18 +1,15 @@
-use Rattle.std.proofs.Common.{refl}
+use Rattle.answers.specs.Verdict.{passed-on}
 use Rattle.book.specs.RecordCases.{records, record-fits}
 use Rattle.book.proofs.records.judge_records.Goals as goal
 
-pub loop-left-init : goal.loop-left-init
-loop-left-init c = refl
-
-pub returns-in_default : goal.returns-in_default
-returns-in_default c = search records
+pub returns-in_err-judge_due : goal.returns-in_err-judge_due
+returns-in_err-judge_due c = passed-on _ c.from_residual.ensures.1 (search (records, c.in_err-judge_due.was))
 
 pub overflow_add-i : goal.overflow_add-i
-overflow_add-i c = search record-fits
+overflow_add-i c = search (record-fits, c.in_ok-judge_due.was)
 
-pub loop-left-preserved : goal.loop-left-preserved
-loop-left-preserved c = search records
+pub loop-preserved : goal.loop-preserved
+loop-preserved c = search (records, c.in_ok-judge_due.was)
 
 pub returns-then-i-book : goal.returns-then-i-book
 returns-then-i-book c = search records

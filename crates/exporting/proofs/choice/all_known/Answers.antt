@@ -1,36 +1,13 @@
-use Rattle.std.proofs.Common.{rules}
-use Rattle.exporting.specs.ChoiceCases.{known_cases}
+use Rattle.std.proofs.Common.{rules, ◌∙◌, sym}
+use Rattle.std.proofs.lemmas.Iterator.{YieldsList-from_slice}
+use Rattle.std.proofs.lemmas.Iterator.Search.{all_from_yields_List}
+use Rattle.table.specs.Found.{is_found}
+use Rattle.lookup.specs.Look.{column_in}
+use Rattle.exporting.specs.ChoiceCases.{known_each, some-found}
 use Rattle.exporting.proofs.choice.all_known.Goals as goal
 
-pub loop-i-init : goal.loop-i-init
-loop-i-init c = search (rules, known_cases)
-
-pub offset_bounds-tags-i : goal.offset_bounds-tags-i
-offset_bounds-tags-i c = search (rules, known_cases)
-
-pub bounds-tags-i : goal.bounds-tags-i
-bounds-tags-i c = search (rules, known_cases)
-
-pub find_column-requires : goal.find_column-requires
-find_column-requires c = search (rules, known_cases)
-
-pub enum_told-1 : goal.enum_told-1
-enum_told-1 c = search (rules, known_cases)
-
-pub enum_told-in_default : goal.enum_told-in_default
-enum_told-in_default c = search (rules, known_cases)
-
-pub returns-in_default : goal.returns-in_default
-returns-in_default c = search (rules, known_cases)
-
-pub overflow_add-i : goal.overflow_add-i
-overflow_add-i c = search (rules, known_cases)
-
-pub loop-i-smaller : goal.loop-i-smaller
-loop-i-smaller c = search (rules, known_cases)
-
-pub loop-i-preserved : goal.loop-i-preserved
-loop-i-preserved c = search (rules, known_cases)
-
 pub returns : goal.returns
-returns c = search (rules, known_cases)
+returns c =
+    all_from_yields_List (λ t. is_found (column_in t c.args.cols.now)) _ _ c.all.result c.all.ensures.ran
+    (YieldsList-from_slice c.args.tags.now cc) (λ x b q k. search (rules, some-found))
+    ∙ sym (known_each c.args.cols.now c.args.tags.now)

@@ -1,15 +1,18 @@
-use Rattle.std.proofs.Common.{rules}
-use Rattle.exporting.specs.RecordCases.{lines_cases, lines-kept, lines_rest, lines_step}
+use Rattle.std.proofs.Common.{rules, arith, ◌≡◌, ◌-◌, ◌+◌, ◌<◌}
+use Rattle.exporting.specs.RecordCases.{lines-kept, lines_rest, lines_step}
 use Rattle.exporting.proofs.lines.put_lines.Goals as goal
 
-pub put_line-k-requires : goal.put_line-k-requires
-put_line-k-requires c = search (rules, lines_cases)
-
-pub loop-left-preserved : goal.loop-left-preserved
-loop-left-preserved c = (search rules, search rules, search rules, search lines-kept, search lines_rest, search lines_step)
-
-pub shape_of-out : goal.shape_of-out
-shape_of-out c = search (rules, lines_cases)
-
-pub returns : goal.returns
-returns c = search (rules, lines_cases)
+pub loop-preserved : goal.loop-preserved
+loop-preserved c =
+    let h : 0 < c.args.j.now.count - c.loop.counter = omega arith in
+    let e : c.args.j.now.count - (c.loop.counter + 1) ≡ c.args.j.now.count - c.loop.counter - 1 = omega arith in
+    let room = rw (← c.forms-forms.ensures) at c.requires.2 in
+    let r = c.loop.invariant.3 in (
+      search rules,
+      search rules,
+      search lines-kept,
+      rw e (lines_rest _ _ _ _ _ _ _ _ _ r h _ (search rules) _ (search rules) _ (search rules)),
+      rw e
+          (lines_step _ _ _ _ _ _ _ _ _ _ _ _ c.loop.invariant.4 r c.loop.invariant.2 room h _ (search rules) _
+          (search rules) _ (search rules) _ (search rules)),
+    )

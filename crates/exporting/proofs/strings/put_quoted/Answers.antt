@@ -5,9 +5,6 @@ use Rattle.exporting.proofs.strings.put_quoted.Goals as goal
 pub bounds-out-at : goal.bounds-out-at
 bounds-out-at c = search (rules, quoted_cases)
 
-pub overflow_add-at : goal.overflow_add-at
-overflow_add-at c = search (rules, quoted_cases)
-
 pub put_doubled-end-requires : goal.put_doubled-end-requires
 put_doubled-end-requires c = search (rules, quoted_cases)
 
@@ -16,9 +13,6 @@ bounds-out-end c = search (rules, quoted_cases)
 
 pub overflow_add-result : goal.overflow_add-result
 overflow_add-result c = search (rules, quoted_cases)
-
-pub shape_of-out : goal.shape_of-out
-shape_of-out c = search (rules, quoted_cases)
 
 pub returns : goal.returns
 returns c = search (rules, quoted_cases)

@@ -2,20 +2,11 @@ use Rattle.std.proofs.Common.{rules}
 use Rattle.importing.specs.FieldCases.{content_cases, plain_cases}
 use Rattle.importing.proofs.fields.content_long.Goals as goal
 
-pub is_quoted-requires : goal.is_quoted-requires
-is_quoted-requires c = search (rules, content_cases, plain_cases)
-
 pub slice_bounds-inner_long-count : goal.slice_bounds-inner_long-count
 slice_bounds-inner_long-count c = search (rules, content_cases, plain_cases)
 
 pub slice_bounds-inner_long-start : goal.slice_bounds-inner_long-start
 slice_bounds-inner_long-start c = search (rules, content_cases, plain_cases)
-
-pub slice_bounds-inner_long-end : goal.slice_bounds-inner_long-end
-slice_bounds-inner_long-end c = search (rules, content_cases, plain_cases)
-
-pub inner_long-requires : goal.inner_long-requires
-inner_long-requires c = search (rules, content_cases, plain_cases)
 
 pub returns-then-is_quoted : goal.returns-then-is_quoted
 returns-then-is_quoted c = search (rules, content_cases, plain_cases)

@@ -2,26 +2,14 @@ use Rattle.std.proofs.Common.{rules}
 use Rattle.importing.specs.FieldCases.{content_cases, plain_cases}
 use Rattle.importing.proofs.fields.first_in.Goals as goal
 
-pub is_quoted-requires : goal.is_quoted-requires
-is_quoted-requires c = search (rules, content_cases, plain_cases)
-
 pub slice_bounds-inner_first-count : goal.slice_bounds-inner_first-count
 slice_bounds-inner_first-count c = search (rules, content_cases, plain_cases)
 
 pub slice_bounds-inner_first-start : goal.slice_bounds-inner_first-start
 slice_bounds-inner_first-start c = search (rules, content_cases, plain_cases)
 
-pub slice_bounds-inner_first-end : goal.slice_bounds-inner_first-end
-slice_bounds-inner_first-end c = search (rules, content_cases, plain_cases)
-
-pub inner_first-requires : goal.inner_first-requires
-inner_first-requires c = search (rules, content_cases, plain_cases)
-
 pub returns-then-is_quoted : goal.returns-then-is_quoted
 returns-then-is_quoted c = search (rules, content_cases, plain_cases)
-
-pub octet_or_none-requires : goal.octet_or_none-requires
-octet_or_none-requires c = search (rules, content_cases, plain_cases)
 
 pub returns : goal.returns
 returns c = search (rules, content_cases, plain_cases)

@@ -2,32 +2,17 @@ use Rattle.std.proofs.Common.{rules}
 use Rattle.importing.specs.FieldCases.{content_cases, plain_cases}
 use Rattle.importing.proofs.fields.put_content.Goals as goal
 
-pub is_quoted-requires : goal.is_quoted-requires
-is_quoted-requires c = search (rules, content_cases, plain_cases)
-
 pub slice_bounds-put_inner-count : goal.slice_bounds-put_inner-count
 slice_bounds-put_inner-count c = search (rules, content_cases, plain_cases)
 
 pub slice_bounds-put_inner-start : goal.slice_bounds-put_inner-start
 slice_bounds-put_inner-start c = search (rules, content_cases, plain_cases)
 
-pub slice_bounds-put_inner-end : goal.slice_bounds-put_inner-end
-slice_bounds-put_inner-end c = search (rules, content_cases, plain_cases)
-
 pub put_inner-requires : goal.put_inner-requires
 put_inner-requires c = search (rules, content_cases, plain_cases)
 
-pub shape_of-out-then-is_quoted : goal.shape_of-out-then-is_quoted
-shape_of-out-then-is_quoted c = search (rules, content_cases, plain_cases)
-
 pub returns-then-is_quoted : goal.returns-then-is_quoted
 returns-then-is_quoted c = search (rules, content_cases, plain_cases)
-
-pub copy-requires : goal.copy-requires
-copy-requires c = search (rules, content_cases, plain_cases)
-
-pub shape_of-out : goal.shape_of-out
-shape_of-out c = search (rules, content_cases, plain_cases)
 
 pub returns : goal.returns
 returns c = search (rules, content_cases, plain_cases)

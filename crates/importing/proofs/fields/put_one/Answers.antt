@@ -8,11 +8,5 @@ returns-then-unread c = search (rules, put_one)
 pub bounds-out-at : goal.bounds-out-at
 bounds-out-at c = search (rules, put_one)
 
-pub overflow_add-result : goal.overflow_add-result
-overflow_add-result c = search (rules, put_one)
-
-pub shape_of-out : goal.shape_of-out
-shape_of-out c = search (rules, put_one)
-
 pub returns : goal.returns
 returns c = search (rules, put_one)

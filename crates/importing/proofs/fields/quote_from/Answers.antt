@@ -1,24 +1,13 @@
-use Rattle.std.proofs.Common.{rules}
-use Rattle.importing.specs.FieldCases.{quote_from}
+use Rattle.std.proofs.Common.{rules, tests, ◌-◌, length, take, drop, eqb}
+use Rattle.std.proofs.lemmas.Iterator.{YieldsList-from_slice}
+use Rattle.std.proofs.lemmas.Iterator.Search.{position_from_yields_List}
+use Rattle.importing.specs.FieldCases.{quoted_from}
 use Rattle.importing.proofs.fields.quote_from.Goals as goal
 
-pub loop-i-init : goal.loop-i-init
-loop-i-init c = search (rules, quote_from)
-
-pub bounds-s-i : goal.bounds-s-i
-bounds-s-i c = search (rules, quote_from)
-
-pub returns-then-s-i-eq-QUOTE : goal.returns-then-s-i-eq-QUOTE
-returns-then-s-i-eq-QUOTE c = search (rules, quote_from)
-
-pub overflow_add-i : goal.overflow_add-i
-overflow_add-i c = search (rules, quote_from)
-
-pub loop-i-smaller : goal.loop-i-smaller
-loop-i-smaller c = search (rules, quote_from)
-
-pub loop-i-preserved : goal.loop-i-preserved
-loop-i-preserved c = search (rules, quote_from)
-
 pub returns : goal.returns
-returns c = search (rules, quote_from)
+returns c =
+    let s = c.args.s.now in
+    let at = c.args.at in
+    quoted_from s at c.requires c.position.result c.unwrap_or.result c.unwrap_or.ensures
+    (position_from_yields_List (λ x. eqb x 34) _ _ c.position.result c.position.ensures.ran
+    (YieldsList-from_slice (take (length s - at) (drop at s)) cc) (λ x b q k. search (rules, tests)))

@@ -2,26 +2,14 @@ use Rattle.std.proofs.Common.{rules}
 use Rattle.importing.specs.FieldCases.{value_long}
 use Rattle.importing.proofs.fields.value_long.Goals as goal
 
-pub content_long-k-requires : goal.content_long-k-requires
-content_long-k-requires c = search (rules, value_long)
-
 pub returns-then-k-eq0 : goal.returns-then-k-eq0
 returns-then-k-eq0 c = search (rules, value_long)
-
-pub number_in-requires : goal.number_in-requires
-number_in-requires c = search (rules, value_long)
-
-pub number_width-requires : goal.number_width-requires
-number_width-requires c = search (rules, value_long)
 
 pub returns-then-code-eq-NUMBERS : goal.returns-then-code-eq-NUMBERS
 returns-then-code-eq-NUMBERS c = search (rules, value_long)
 
 pub returns-then-code-eq-TRUTHS : goal.returns-then-code-eq-TRUTHS
 returns-then-code-eq-TRUTHS c = search (rules, value_long)
-
-pub overflow_add-result : goal.overflow_add-result
-overflow_add-result c = search (rules, value_long)
 
 pub returns : goal.returns
 returns c = search (rules, value_long)

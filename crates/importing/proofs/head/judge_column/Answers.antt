@@ -5,8 +5,5 @@ use Rattle.importing.proofs.head.judge_column.Goals as goal
 pub returns-then-v-lt1 : goal.returns-then-v-lt1
 returns-then-v-lt1 c = search (rules, value_given)
 
-pub judge_value-requires : goal.judge_value-requires
-judge_value-requires c = search (rules, value_given)
-
 pub returns : goal.returns
 returns c = search (rules, value_given)

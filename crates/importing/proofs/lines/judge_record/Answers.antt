@@ -1,42 +1,16 @@
 use Rattle.std.proofs.Common.{rules}
-use Rattle.importing.specs.LineCases.{record_judged}
+use Rattle.answers.specs.Verdict.{passed-on}
+use Rattle.importing.specs.LineCases.{record_judged, record-fits}
 use Rattle.importing.proofs.lines.judge_record.Goals as goal
-
-pub refuse-requires : goal.refuse-requires
-refuse-requires c = search (rules, record_judged)
-
-pub no_line-requires : goal.no_line-requires
-no_line-requires c = search (rules, record_judged)
 
 pub returns-then-opened-ge-MOST_OPENED : goal.returns-then-opened-ge-MOST_OPENED
 returns-then-opened-ge-MOST_OPENED c = search (rules, record_judged)
 
-pub octets_for-head-requires : goal.octets_for-head-requires
-octets_for-head-requires c = search (rules, record_judged)
-
-pub overflow_add-head : goal.overflow_add-head
-overflow_add-head c = search (rules, record_judged)
-
-pub judge_room-v-requires : goal.judge_room-v-requires
-judge_room-v-requires c = search (rules, record_judged)
-
-pub enum_told-1 : goal.enum_told-1
-enum_told-1 c = search (rules, record_judged)
-
-pub enum_told-in_default : goal.enum_told-in_default
-enum_told-in_default c = search (rules, record_judged)
-
-pub no_line-requires-in_default : goal.no_line-requires-in_default
-no_line-requires-in_default c = search (rules, record_judged)
-
-pub returns-in_default : goal.returns-in_default
-returns-in_default c = search (rules, record_judged)
+pub returns-in_err-judge_room : goal.returns-in_err-judge_room
+returns-in_err-judge_room c = passed-on _ c.from_residual.ensures.1 (search (record_judged, c.in_err-judge_room.was))
 
 pub overflow_add-w : goal.overflow_add-w
-overflow_add-w c = search (rules, record_judged)
-
-pub judge_line-requires : goal.judge_line-requires
-judge_line-requires c = search (rules, record_judged)
+overflow_add-w c = search (record-fits, c.in_ok-judge_room.was)
 
 pub returns : goal.returns
-returns c = search (rules, record_judged)
+returns c = search (rules, record_judged, c.in_ok-judge_room.was)

@@ -2,9 +2,6 @@ use Rattle.std.proofs.Common.{rules}
 use Rattle.importing.specs.LineCases.{key_cases}
 use Rattle.importing.proofs.lines.key_held.Goals as goal
 
-pub is_key-requires : goal.is_key-requires
-is_key-requires c = search (rules, key_cases)
-
 pub returns-then-is_key : goal.returns-then-is_key
 returns-then-is_key c = search (rules, key_cases)
 

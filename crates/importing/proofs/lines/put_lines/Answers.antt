@@ -1,16 +1,10 @@
 use Rattle.std.proofs.Common.{rules}
-use Rattle.importing.specs.LinesCases.{lines_putting, lines_put, count_fits}
+use Rattle.importing.specs.LinesCases.{lines_putting, lines_put}
 use Rattle.importing.specs.LinesCases.{put-end, put-more, put-taken, put_count, put_rest, put-kept, put_step}
 use Rattle.importing.proofs.lines.put_lines.Goals as goal
 
-pub loop-at-init : goal.loop-at-init
-loop-at-init c = search (rules, lines_putting, lines_put)
-
 pub put_record-put-requires : goal.put_record-put-requires
 put_record-put-requires c = search (rules, lines_putting, lines_put)
-
-pub overflow_add-count : goal.overflow_add-count
-overflow_add-count c = search (rules, count_fits)
 
 pub loop-at-smaller : goal.loop-at-smaller
 loop-at-smaller c = search (rules, lines_putting, lines_put)
@@ -26,9 +20,6 @@ loop-at-preserved c = (
   search
       put_step,
 )
-
-pub shape_of-out : goal.shape_of-out
-shape_of-out c = search (rules, lines_putting, lines_put)
 
 pub returns : goal.returns
 returns c = search (rules, lines_putting, lines_put)

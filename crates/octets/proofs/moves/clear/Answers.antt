@@ -1,12 +1,11 @@
 use Rattle.std.proofs.Common.{rules}
 use Rattle.octets.specs.Splice.{shells}
+use Rattle.octets.specs.Stores.{part_cleared}
 use Rattle.octets.proofs.moves.clear.Goals as goal
+use Rattle.octets.proofs.moves.clear.Goals.{else-from-end-via-then-from-end+else-end-buf, else-from-end-via-else-from-end}
 
-pub returns-then-end-from : goal.returns-then-end-from
-returns-then-end-from c = search (rules, shells)
+pub returns-then-end-buf : goal.returns-then-end-buf
+returns-then-end-buf c = search (rules, part_cleared)
 
-pub returns-then-buf-end : goal.returns-then-buf-end
-returns-then-buf-end c = search (rules, shells)
-
-pub returns : goal.returns
-returns c = search (rules, shells)
+pub returns-else-from-end : goal.returns-else-from-end
+returns-else-from-end c = search (rules, shells)

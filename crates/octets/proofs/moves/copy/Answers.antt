@@ -1,12 +1,10 @@
 use Rattle.std.proofs.Common.{rules}
 use Rattle.octets.specs.Splice.{shells}
+use Rattle.octets.specs.Stores.{part_copied}
 use Rattle.octets.proofs.moves.copy.Goals as goal
 
-pub returns-then-buf-src : goal.returns-then-buf-src
-returns-then-buf-src c = search (rules, shells)
+pub returns-then-at-buf : goal.returns-then-at-buf
+returns-then-at-buf c = search (rules, part_copied)
 
-pub returns-then-buf-src-2 : goal.returns-then-buf-src-2
-returns-then-buf-src-2 c = search (rules, shells)
-
-pub returns : goal.returns
-returns c = search (rules, shells)
+pub returns-else-src-buf : goal.returns-else-src-buf
+returns-else-src-buf c = search (rules, shells)

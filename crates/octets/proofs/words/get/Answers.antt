@@ -1,15 +1,10 @@
-use Rattle.std.proofs.Common.{rules}
-use Rattle.octets.specs.Word.{gets}
+use Rattle.std.proofs.Common.{rules, tests}
+use Rattle.std.proofs.lemmas.Iterator.Adapters.{YieldsList-from_rev_slice}
+use Rattle.std.proofs.lemmas.Iterator.Consumers.{fold_from_yields_List}
+use Rattle.octets.specs.Word.{taken_in, get_all}
 use Rattle.octets.proofs.words.get.Goals as goal
 
-pub loop-k-init : goal.loop-k-init
-loop-k-init c = search (rules, gets)
-
-pub overflow_add-r : goal.overflow_add-r
-overflow_add-r c = search (rules, gets)
-
-pub loop-k-preserved : goal.loop-k-preserved
-loop-k-preserved c = search (rules, gets)
-
 pub returns : goal.returns
-returns c = search (rules, gets)
+returns c =
+    get_all _ _ (fold_from_yields_List _ taken_in _ _ c.fold.ensures.ran (YieldsList-from_rev_slice c.args.s.now (cc)) (λ a x b q k. search (rules, tests))) c.requires
+    c.type_inv.s

@@ -1,12 +1,9 @@
 use Rattle.std.proofs.Common.{rules}
-use Rattle.octets.specs.Word.{puts}
+use Rattle.octets.specs.Word.{put_on, put-left, put_all}
 use Rattle.octets.proofs.words.put.Goals as goal
 
-pub loop-j-init : goal.loop-j-init
-loop-j-init c = search (rules, puts)
-
-pub loop-j-preserved : goal.loop-j-preserved
-loop-j-preserved c = search (rules, puts)
+pub loop-b-preserved : goal.loop-b-preserved
+loop-b-preserved c = search (rules, put_on, put-left)
 
 pub returns : goal.returns
-returns c = search (rules, puts)
+returns c = search (rules, put_all)

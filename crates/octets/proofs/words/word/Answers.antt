@@ -1,15 +1,12 @@
-use Rattle.std.proofs.Common.{rules}
-use Rattle.octets.specs.Word.{words}
+use Rattle.std.proofs.Common.{rules, arith}
+use Rattle.octets.specs.Word.{words, word_in, word_rest}
 use Rattle.octets.proofs.words.word.Goals as goal
 
-pub returns-then-n-gt8 : goal.returns-then-n-gt8
-returns-then-n-gt8 c = search (rules, words)
-
 pub returns-then-s-i : goal.returns-then-s-i
-returns-then-s-i c = search (rules, words)
+returns-then-s-i c = word_rest _ c.args.n c.args.s.now c.args.i (omega arith) (omega arith) c.get.ensures.0 c.get.ensures.1
 
-pub returns-then-left-n : goal.returns-then-left-n
-returns-then-left-n c = search (rules, words)
+pub returns-else-s-i : goal.returns-else-s-i
+returns-else-s-i c = search (rules, word_in)
 
-pub returns : goal.returns
-returns c = search (rules, words)
+pub returns-else-n-le8 : goal.returns-else-n-le8
+returns-else-n-le8 c = search (rules, words)

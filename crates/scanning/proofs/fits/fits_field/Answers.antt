@@ -2,20 +2,11 @@ use Rattle.std.proofs.Common.{rules}
 use Rattle.scanning.specs.FitCases.{held_cases}
 use Rattle.scanning.proofs.fits.fits_field.Goals as goal
 
-pub inner-g-requires : goal.inner-g-requires
-inner-g-requires c = search (rules, held_cases)
-
 pub returns-then-g-lt1 : goal.returns-then-g-lt1
 returns-then-g-lt1 c = search (rules, held_cases)
 
-pub is_small-requires : goal.is_small-requires
-is_small-requires c = search (rules, held_cases)
-
 pub returns-then-code-eq-NUMBERS : goal.returns-then-code-eq-NUMBERS
 returns-then-code-eq-NUMBERS c = search (rules, held_cases)
-
-pub is_utf8-requires : goal.is_utf8-requires
-is_utf8-requires c = search (rules, held_cases)
 
 pub returns-then-code-eq-TEXTS : goal.returns-then-code-eq-TEXTS
 returns-then-code-eq-TEXTS c = search (rules, held_cases)

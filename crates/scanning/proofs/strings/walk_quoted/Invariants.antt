@@ -1,9 +1,7 @@
-use Rattle.std.proofs.Common.{◌≡◌, false, ◌-◌, ◌≤◌, length, drop}
+use Rattle.std.proofs.Common.{◌≡◌, false, drop}
 use Rattle.scanning.specs.Passing.{quoted_from}
 use Rattle.scanning.proofs.strings.walk_quoted.Given as goal
 
 abbrev pub invariant-loop-i : goal.invariant-loop-i
-invariant-loop-i l = (l.i ≤ length l.text) × (quoted_from false l.end l.i (drop l.i l.text) ≡ quoted_from false l.end l.at (drop l.at l.text))
-
-abbrev pub decreases-loop-i : goal.decreases-loop-i
-decreases-loop-i l = length l.text - l.i
+invariant-loop-i l =
+    quoted_from l.behind l.end l.i (drop l.i l.text) ≡ quoted_from false l.end l.at (drop l.at l.text)

@@ -1,12 +1,9 @@
 use Rattle.std.proofs.Common.{rules}
-use Rattle.serial.specs.Wide.{folds}
+use Rattle.serial.specs.Wide.{fold_start, rest_step}
 use Rattle.serial.proofs.fold.fold.Goals as goal
 
-pub loop-i-init : goal.loop-i-init
-loop-i-init c = search (rules, folds)
+pub loop-rest-init : goal.loop-rest-init
+loop-rest-init c = search (rules, fold_start)
 
-pub loop-i-preserved : goal.loop-i-preserved
-loop-i-preserved c = search (rules, folds)
-
-pub returns : goal.returns
-returns c = cc
+pub loop-rest-preserved : goal.loop-rest-preserved
+loop-rest-preserved c = search (rules, rest_step)

@@ -7,9 +7,6 @@ use Rattle.table.proofs.repeat.first_repeat.Given as goal
 abbrev pub invariant-loop-j : goal.invariant-loop-j
 invariant-loop-j l = (l.i < length l.tags) × (l.j ≤ l.i) × (any (same_tag l.tags l.i) l.j ≡ false) × (first (earlier l.tags) l.i ≡ none)
 
-abbrev pub decreases-loop-j : goal.decreases-loop-j
-decreases-loop-j l = l.i - l.j
-
 abbrev pub invariant-rows : goal.invariant-rows
 invariant-rows l = (l.i ≤ length l.tags) × (first (earlier l.tags) l.i ≡ none)
 

@@ -8,8 +8,8 @@ returns-in_default c = search lists
 pub returns-then-n-lt1 : goal.returns-then-n-lt1
 returns-then-n-lt1 c = search lists
 
-pub loop-left-init : goal.loop-left-init
-loop-left-init c = (search number-within, search list-start)
+pub loop-init : goal.loop-init
+loop-init c = (search number-within, search list-start)
 
 pub returns-in_default-element : goal.returns-in_default-element
 returns-in_default-element c = search lists
@@ -17,8 +17,8 @@ returns-in_default-element c = search lists
 pub overflow_add-i : goal.overflow_add-i
 overflow_add-i c = search list-fits
 
-pub loop-left-preserved : goal.loop-left-preserved
-loop-left-preserved c = (search list-in, search list-next)
+pub loop-preserved : goal.loop-preserved
+loop-preserved c = (search list-in, search list-next)
 
 pub returns : goal.returns
 returns c = search lists

@@ -1,4 +1,0 @@
-use Rattle.presence.proofs.has.Goals as goal
-
-pub returns : goal.returns
-returns c = cc

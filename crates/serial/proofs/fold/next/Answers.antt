@@ -1,4 +1,0 @@
-use Rattle.serial.proofs.fold.next.Goals as goal
-
-pub returns : goal.returns
-returns c = cc
