@@ -1,6 +1,7 @@
 -- The ways of the code that reads a book's front and goes on to the whole, on plain values.
-use Rattle.std.specs.Prelude.{Err, Ok, ℕ, ◌+◌, ◌*◌, ◌^◌, ◌≤◌, ◌<◌, ◌≡◌, refl, length, take, drop}
+use Rattle.std.specs.Prelude.{Err, Ok, ℕ, ◌+◌, ◌-◌, ◌*◌, ◌^◌, ◌≤◌, ◌<◌, ◌≡◌, refl, length, take, drop}
 use Rattle.std.proofs.Common.{arith, ◌∙◌, take_at, drop-drop, Fits}
+use Rattle.std.proofs.Math.Nat.{sub-zero}
 use Rattle.std.proofs.Math.Path.{sym, ap}
 use mathlib.Core.List.{List, []}
 use Rattle.std.specs.Int.{w64}
@@ -48,6 +49,11 @@ first-place b =
     ∙ drop-drop (word_of 4 (records_in ys)) (records_place ys) b)
 
 -- ---- judge_head and read_front
+
+pub head-is : (b : List ℕ) (at : ℕ) (c : Columns) (v : Verdict)
+    → v ≡ due_at (slots_from (take (c.count - 0) c.forms) []) at (drop at b)
+    → v ≡ due_at (slots_from (take c.count c.forms) []) at (drop at b)
+head-is b at c v e = rw (sub-zero c.count) at e
 
 forms-are : (cs : List Column) → take (columns_in cs).count (columns_in cs).forms ≡ forms_of cs
 unfolding columns_in

@@ -89,6 +89,16 @@ module _ (forms p s : List ℕ) (c at i j : ℕ) (inv : spot_from (drop j (slots
         let f : step_of p c (form_at (get_or forms c 0)) (drop i s) ≡ r = rw (rest_of s i) at (sym e) in
         rw (m, n, slots_next forms [] c k, spot-last _ _ c p (at + i) (drop i s), f) at inv
 
+    pub find-lost : (q : ℕ) → r ≡ Broken q
+        → ◌≡◌ {A = Stretch} (record { start = at + i; long = 0 }) (as_stretch (spot_from (slots_from forms []) c 0 p at s))
+    unfolding as_stretch
+    find-lost q z = ap as_stretch (rw z at last_step)
+
+    pub find-found : (w : ℕ) → r ≡ Ends w
+        → ◌≡◌ {A = Stretch} (record { start = at + i; long = w }) (as_stretch (spot_from (slots_from forms []) c 0 p at s))
+    unfolding as_stretch
+    find-found w z = ap as_stretch (rw z at last_step)
+
     pub find-last : (w : ℕ) → w ≡ result_unwrap_or r 0
         → ◌≡◌ {A = Stretch} (record { start = at + i; long = w }) (as_stretch (spot_from (slots_from forms []) c 0 p at s))
     unfolding as_stretch

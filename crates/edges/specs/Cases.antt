@@ -86,6 +86,15 @@ module _ (p : List ℕ) (i f : ℕ) (ys : List ℕ) (t : Bool) (e : t ≡ is_set
     short-fits u q y = width_fits p i f ys 1 (width-short u q y)
 
     module _ (r : Walk) (q : r ≡ value_of (form_at f) ys) where
+      pub width-ends : (w : ℕ) → r ≡ Ends w → w ≡ width_of (step_of p i (form_at f) ys)
+      width-ends w y = rw (step_is, ← q, y)
+
+      pub ends-fit : (w : ℕ) → r ≡ Ends w → w ≤ length ys
+      ends-fit w y = width_fits p i f ys w (width-ends w y)
+
+      pub width-breaks : (k : ℕ) → r ≡ Broken k → 0 ≡ width_of (step_of p i (form_at f) ys)
+      width-breaks k y = rw (step_is, ← q, y)
+
       pub width-passed : (w : ℕ) → w ≡ result_unwrap_or r 0 → w ≡ width_of (step_of p i (form_at f) ys)
       width-passed w y = rw (step_is, ← q, y) (same r)
         where
@@ -96,7 +105,16 @@ module _ (p : List ℕ) (i f : ℕ) (ys : List ℕ) (t : Bool) (e : t ≡ is_set
       pub passed-fits : (w : ℕ) → w ≡ result_unwrap_or r 0 → w ≤ length ys
       passed-fits w y = width_fits p i f ys w (width-passed w y)
 
-pub ruleset widths = (width-absent, width-short, short-fits, width-passed, passed-fits)
+pub ruleset widths = (
+  width-absent,
+  width-short,
+  short-fits,
+  width-ends,
+  ends-fit,
+  width-breaks,
+  width-passed,
+  passed-fits,
+)
 
 -- ---- fill_edges
 

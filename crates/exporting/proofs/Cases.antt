@@ -1,5 +1,5 @@
 -- The ways of the calls that export, on plain values.
-use Rattle.std.specs.Prelude.{Err, Ok, ℕ, ◌+◌, ◌-◌, ◌*◌, ◌^◌, ◌≤◌, ◌<◌, true, leb, get_or, replicate}
+use Rattle.std.specs.Prelude.{Err, Ok, ℕ, ◌+◌, ◌-◌, ◌*◌, ◌^◌, ◌≤◌, ◌<◌, true, leb, drop, get_or, replicate}
 use Rattle.std.proofs.Common.{arith, ◌∙◌, length-append, take_at, Fits}
 use Rattle.std.proofs.Math.Nat.{sub-zero}
 use Rattle.std.proofs.Math.Path.{◌≡◌, refl, sym, ap, ap₂}
@@ -20,10 +20,10 @@ use Rattle.answers.specs.Made.{answered, answered-done}
 use Rattle.table.specs.declared.Columns.{Columns}
 use Rattle.table.specs.Columns.{tags_of, forms_of, columns_in}
 use Rattle.edges.specs.Edges.{most_edges}
-use Rattle.book.specs.Book.{count_in}
+use Rattle.book.specs.Book.{cols_in, count_in}
 use Rattle.book.specs.Front.{first_place}
 use Rattle.book.specs.Judged.{judged_of}
-use Rattle.book.specs.Good.{GoodIs, good-is, refused-by, good-keeps, tags-in, forms-in}
+use Rattle.book.specs.Good.{GoodIs, good-is, refused-by, good-keeps, tags-in, forms-in, reach-tags, reach-forms}
 use Rattle.book.specs.Read.{book_in}
 use Rattle.book.specs.declared.Judgement.{Judgement}
 use Rattle.sheet.specs.Digits.{digits_long}
@@ -255,6 +255,12 @@ module _ (xs tags : List ℕ) (u : Answer Judgement) (e : u ≡ judged_of xs) wh
     pub count-few : j.count ≤ most_records
     count-few = let k = good-keeps xs good.clears in rw good.count k.1
 
+    pub tags-reach : j.address.count ≤ length j.address.tags
+    tags-reach = rw good.cols (reach-tags (cols_in (drop 12 xs)))
+
+    pub forms-reach : j.address.count ≤ length j.address.forms
+    forms-reach = rw good.cols (reach-forms (cols_in (drop 12 xs)))
+
     cols-are : j.address ≡ columns_in (book_in xs).cols
     unfolding book_in
     cols-are = good.cols
@@ -305,6 +311,6 @@ module _ (xs tags : List ℕ) (u : Answer Judgement) (e : u ≡ judged_of xs) wh
           z ∙ rw (choice-same, coded-is, good.clears)
           (one-sheet (λ v s. kept (v then need (leb (length s) (length d)) no_room 0) d (stored d 0 s)) (λ r s t. refl))
 
-pub ruleset book_keeps = (book-short, first-near, count-few)
+pub ruleset book_keeps = (book-short, first-near, count-few, tags-reach, forms-reach)
 
 pub ruleset export_cases = (length-refused, export-refused, export-left, length-done, export-done, export-put)

@@ -247,7 +247,11 @@ module _ (p : List ℕ) (j : ℕ) (f : Form) (s : List ℕ) (r : Walk) (e : r �
   pub column-within : (k : ℕ) → k ≡ result_unwrap_or r 0 → k ≤ length s
   column-within k z = rw (column-long k z) (width-within p j f s)
 
-pub ruleset column_cases = (column-long, column-within)
+pub column-broken : (p : List ℕ) (j : ℕ) (f : Form) (s : List ℕ) (r : Walk) (q : ℕ) → r ≡ step_of p j f s
+    → r ≡ Broken q → 0 ≡ width_of (step_of p j f s)
+column-broken p j f s r q e z = rw (← e, z)
+
+pub ruleset column_cases = (column-long, column-within, column-broken)
 
 pub part-to : (s : List ℕ) (i k : ℕ) → i ≤ length s → k ≤ length (take (length s - i) (drop i s)) → i + k ≤ length s
 part-to s i k h l = let a = ap length (rest_all s i h) in let b = length-drop i s in omega arith

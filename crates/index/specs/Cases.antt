@@ -21,7 +21,7 @@ use Rattle.book.specs.Book.{cols_in, count_in, header_at}
 use Rattle.book.specs.Front.{through_tables}
 use Rattle.book.specs.Judged.{tables_in}
 use Rattle.book.specs.JudgeCases.{slots-row, through-clear, address-are}
-use Rattle.book.specs.Good.{header-keeps, tags-in, forms-in, bits_in}
+use Rattle.book.specs.Good.{header-keeps, tags-in, forms-in, bits_in, tags-reach, forms-reach, flags-reach}
 use Rattle.book.specs.declared.Tables.{Tables}
 use Rattle.lookup.specs.Cases.{seek-same}
 use Rattle.lookup.specs.Look.{no_such, seek_in, column_in, in_column}
@@ -254,6 +254,19 @@ module _ (b ix : List ℕ) (k : ℕ) (u : Answer Tables) (te : u ≡ tables_in b
         indexed-look tag r q =
             let cs = cols_in (drop 12 b) in
             rw (pair-rest, y, ← ae) (rw (address-are b u te t z, tags-in cs, forms-in cs, bits_in cs, slots-row cs) at q)
+
+-- the address columns reach as far as their count
+module _ (b : List ℕ) (u : Answer Tables) (te : u ≡ tables_in b) (t : Tables) (z : u ≡ Ok t) where
+  pub tags-there : t.address.count ≤ length t.address.tags
+  tags-there = tags-reach t.address (cols_in (drop 12 b)) (address-are b u te t z)
+
+  pub forms-there : t.address.count ≤ length t.address.forms
+  forms-there = forms-reach t.address (cols_in (drop 12 b)) (address-are b u te t z)
+
+  pub flags-there : t.address.count ≤ length t.address.flags
+  flags-there = flags-reach t.address (cols_in (drop 12 b)) (address-are b u te t z)
+
+pub ruleset reaches = (tags-there, forms-there, flags-there)
 
 pub ruleset entered = (entry-front, entry-beside, entry-out, entry-good)
 

@@ -12,7 +12,7 @@ use borrow.Author.Tests.{le-leb, lt-leb, leb-true, lt-ltb, le-ltb, ltb-true, eq-
 use Rattle.octets.specs.Cases.{split}
 use Rattle.octets.specs.Word.{word_of}
 use Rattle.answers.specs.Numbers.{cut_short, wrong_size, out_of_turn, breaks_rule, no_room, breaks_form, most_octets}
-use Rattle.answers.specs.Numbers.{most_records}
+use Rattle.answers.specs.Numbers.{most_records, most_columns}
 use Rattle.answers.specs.declared.Refusal.{Refusal}
 use Rattle.answers.specs.Verdict.{Answer, answered, verdict_of, refusal}
 use Rattle.answers.specs.Made.{answered-done}
@@ -180,6 +180,15 @@ module _ (b : List ℕ) (u : Answer Judgement) (je : u ≡ judged_of b) where
 
     pub book-short : length b ≤ most_octets
     book-short = (good-keeps b good.clears).0
+
+    pub address-reach : (j.address.count ≤ most_columns) × (j.address.count ≤ length j.address.forms)
+        × (j.address.count ≤ length j.address.flags) × (length b ≤ most_octets)
+    address-reach =
+        let fit = cols-fit b good.clears in
+        let x = fit.few in
+        let y = fit.forms in
+        let z = fit.flags in
+        (rw good.cols x, rw good.cols (omega arith), rw good.cols (omega arith), (good-keeps b good.clears).0)
 
     pub first_small : j.first < 2 ^ 32
     first_small =

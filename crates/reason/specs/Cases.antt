@@ -33,7 +33,7 @@ use Rattle.book.specs.Book.{Sound, heads_in, cols_in, head_count, col_count, rec
 use Rattle.book.specs.Book.{header_at, judge}
 use Rattle.book.specs.Judged.{judged_of}
 use Rattle.book.specs.JudgeCases.{both-fit, table-long}
-use Rattle.book.specs.Good.{GoodIs, good-is, refused-by, good-keeps, tags-in, forms-in}
+use Rattle.book.specs.Good.{GoodIs, good-is, refused-by, good-keeps, tags-in, forms-in, reach-tags, reach-forms}
 use Rattle.book.specs.Read.{book_in, book-reads, heads-are, cols-are, rows-count}
 use Rattle.book.specs.declared.Judgement.{Judgement}
 use Rattle.lookup.specs.Places.{walk_behind, walk-behind, place_in}
@@ -41,7 +41,7 @@ use Rattle.lookup.specs.Look.{column_in}
 use Rattle.lookup.specs.Laws.{column-below, column-in}
 use Rattle.std.specs.List.{position_from, position_or_len}
 use Rattle.std.proofs.lemmas.Iterator.Adapters.{position_from-zero}
-use Rattle.lookup.specs.Cases.{find-start, position-column, walk-place}
+use Rattle.lookup.specs.Cases.{moved_by, find-start, find_none, find-here, find-next, position-column, walk-place}
 use Rattle.lookup.specs.Back.{record-good}
 use Rattle.lookup.specs.Named.{There, columns_for, row_for, columns-sound, value-formed, start_for}
 use Rattle.lookup.specs.Named.{value_in, value_for}
@@ -53,7 +53,7 @@ use Rattle.reason.specs.declared.Reason.TheVariants as reason
 use Rattle.reason.specs.Why.{upper, uppers_of, rows_place, other_type, truncated, read}
 use Rattle.reason.specs.Why.{numbers_from, numbers_in, listed_in, is_listed, presence_place, absent_at, reply_by}
 use Rattle.reason.specs.Why.{reply_in, reason_by, why_at, why_of}
-use Rattle.reason.specs.Halves.{uppers-long}
+use Rattle.reason.specs.Halves.{uppers-long, upper-at}
 use Rattle.reason.specs.Cause.{present, answer_in, why-is}
 
 -- the truncated properties as they stand between their edges
@@ -135,6 +135,27 @@ pub ruleset holding =
     (holds-none, holds-start, holds-within, holds-end, holds-cut, holds-here, holds-next, holds-in, holds_fits)
 
 -- ---- find_half and other_type
+
+module _ (tag : ℕ) (tags : List ℕ) where
+  pub half-start : moved_by 0 (column_in (upper tag) (uppers_of tags)) ≡ column_in (upper tag) (uppers_of tags)
+  half-start = find-start (upper tag) (uppers_of tags)
+
+  module _ (i : ℕ)
+      (inv : moved_by i (column_in (upper tag) (drop i (uppers_of tags))) ≡ column_in (upper tag) (uppers_of tags)) where
+    pub half-none : length tags ≤ i → Nothing ≡ column_in (upper tag) (uppers_of tags)
+    half-none h = find_none (upper tag) (uppers_of tags) i inv (rw (uppers-long tags) h)
+
+    module _ (h : i < length tags) where
+      pub half-here : tag / 65536 ≡ get_or tags i 0 / 65536 → At i ≡ column_in (upper tag) (uppers_of tags)
+      half-here e =
+          find-here (upper tag) (uppers_of tags) i inv (rw (uppers-long tags) h) (e ∙ sym (upper-at tags i))
+
+      pub half-next : (tag / 65536 ≡ get_or tags i 0 / 65536 → ⊥)
+          → moved_by (i + 1) (column_in (upper tag) (drop (i + 1) (uppers_of tags))) ≡ column_in (upper tag) (uppers_of tags)
+      half-next e =
+          find-next (upper tag) (uppers_of tags) i inv (rw (uppers-long tags) h) (λ z. e (z ∙ upper-at tags i))
+
+pub ruleset halves = (half-start, half-none, half-here, half-next)
 
 half-position : (tag i : ℕ) (tags : List ℕ)
     → position_from (λ x. eqb (upper tag) (upper x)) i tags ≡ position_from (eqb (upper tag)) i (uppers_of tags)
@@ -322,8 +343,20 @@ module _ (b : List ℕ) (w : Which) (t : ℕ) (u : Answer Judgement) (e : u ≡ 
     pub header-few : j.header.count ≤ most_columns
     header-few = rw good.heads (both-fit b tables-clear).0.few
 
+    pub header-tags : j.header.count ≤ length j.header.tags
+    header-tags = rw good.heads (reach-tags (heads_in (drop 12 b)))
+
+    pub header-forms : j.header.count ≤ length j.header.forms
+    header-forms = rw good.heads (reach-forms (heads_in (drop 12 b)))
+
     pub address-few : j.address.count ≤ most_columns
     address-few = rw good.cols (both-fit b tables-clear).1.few
+
+    pub address-tags : j.address.count ≤ length j.address.tags
+    address-tags = rw good.cols (reach-tags (cols_in (drop 12 b)))
+
+    pub address-forms : j.address.count ≤ length j.address.forms
+    address-forms = rw good.cols (reach-forms (cols_in (drop 12 b)))
 
     pub header-place : j.head < 2 ^ 32
     header-place = let k = good-keeps b good.clears in let p = good.header in omega (arith, k.0, k.2)
@@ -395,7 +428,11 @@ module _ (b : List ℕ) (w : Which) (t : ℕ) (u : Answer Judgement) (e : u ≡ 
 
 pub ruleset asks = (
   header-few,
+  header-tags,
+  header-forms,
   address-few,
+  address-tags,
+  address-forms,
   header-place,
   rows-place,
   record-place,

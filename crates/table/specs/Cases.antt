@@ -24,9 +24,9 @@ use Rattle.table.specs.Found.{Found}
 use Rattle.table.specs.Found.{At, Nothing}
 use Rattle.table.specs.Repeat.{repeat-is, repeat_of, found_at, repeat-below}
 use Rattle.table.specs.Table.{Column, row_at, columns_at, table_at, columns_of, table_of}
-use Rattle.answers.specs.Padded.{padded, padded-more}
+use Rattle.answers.specs.Padded.{padded, padded-long, padded-more}
 use Rattle.table.specs.Columns.{tags_of, bits_of, forms_of, columns_in, settled}
-use Rattle.table.specs.Columns.{table_in, plain_at, one_more, read_to, filled_to, agree, read_all}
+use Rattle.table.specs.Columns.{table_in, plain_at, one_more, read_to, filled_to, agree, read_all, read-most}
 use Rattle.table.specs.Columns.{columns-long, column_at, columns-snoc, tags-snoc, bits-snoc, forms-snoc}
 use Rattle.table.specs.Columns.{tags-long, bits-long, forms-long}
 
@@ -259,3 +259,16 @@ module _ (t : Rows) (at : ℕ) (f : Found) (ts : List ℕ) (te : ts ≡ take t.c
       omega arith
 
 pub ruleset settles = (settle-repeat, settle-stop, settle-good)
+
+-- the tags that were read stand in their array
+module _ (t : Rows) (n at : ℕ) (xs : List ℕ) (q : t ≡ filled_to n at xs) (h : t.columns.count ≤ n)
+    (k : n ≤ most_columns) where
+  pub tags-hold : t.columns.count ≤ length t.columns.tags
+  unfolding filled_to columns_in
+  tags-hold =
+      let cs : List Column = columns_of (read_to n at xs) xs in
+      let m : read_to n at xs ≤ n = read-most n at xs in
+      let l : length cs ≡ read_to n at xs = columns-long (read_to n at xs) xs in
+      let d : length (padded (tags_of cs)) ≡ most_columns = padded-long (tags_of cs) (rw (tags-long cs) (omega arith)) in
+      let e : t.columns.tags ≡ padded (tags_of cs) = ap (λ (x : Rows). x.columns.tags) q in
+      rw e (rw d (omega arith))
