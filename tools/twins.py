@@ -7,7 +7,8 @@ import os
 import re
 
 os.chdir(os.path.join(os.path.dirname(os.path.abspath(__file__)), ".."))
-FUNCTION = re.compile(r"(?:pub )?fn (\w+)[^{;]*?(?:\n    (?:ensures|requires)[^\n]*(?:\n(?!\{)[^\n]*)*)?\n\{\n(.*?)\n\}\n", re.S)
+CLAUSES = r"(?:\n    (?:ensures|requires)[^\n]*(?:\n(?!\{)[^\n]*)*)?"
+FUNCTION = re.compile(r"(?:pub )?fn (\w+)[^{;]*?" + CLAUSES + r"\n\{\n(.*?)\n\}\n", re.S)
 ASIDE = [
     (r"\b(0x[0-9A-Fa-f_]+|\d[\d_]*)(u8|u16|u32|u64|usize)?\b", "N"),
     (r"\b(u8|u16|u32|u64|usize)\b", "T"),
