@@ -3,7 +3,7 @@
 #![tactic(auto)]
 
 use answers::Answer;
-use lines::{Answered, Lines, behind};
+use lines::{Answered, Answering, Lines, behind};
 use lookup::Which;
 use octets::{octet, word32};
 use std::fmt;
@@ -51,9 +51,11 @@ impl Play {
         self.stated = book.len();
         self.size = book.len() + (word32(case, 1) % 65536) as usize;
     }
+}
 
+impl Answering for Play {
     // A new buffer, another stated length, or a call. There is no line where the buffer would be too long.
-    fn answer(&mut self, out: &mut Lines, case: &[u8]) -> fmt::Result {
+    fn answer(&mut self, out: &mut Lines, case: &mut [u8]) -> fmt::Result {
         let what = octet(case, 0);
         match what {
             0 => self.renew(case),
@@ -83,5 +85,5 @@ fn main() {
         size: 0,
         stated: 0,
     };
-    lines::answer_cases(|out, case| play.answer(out, case));
+    lines::answer_cases(&mut play);
 }

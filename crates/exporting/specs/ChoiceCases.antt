@@ -105,6 +105,14 @@ module _ (cols tags : List ℕ) (a : Bool) (ae : a ≡ all_known cols tags) wher
 
 pub ruleset choice_cases = (choice-unknown, choice-type, choice-none, choice-many, choice-twice, choice-good)
 
+pub place_at : (cols : List ℕ) (tag : ℕ) (r : Found) (c : ℕ) → r ≡ column_in tag cols → r ≡ At c → c ≡ place_of cols tag
+unfolding place_of
+place_at cols tag r c e z = rw (← e, z)
+
+pub place_none : (cols : List ℕ) (tag : ℕ) (r : Found) → r ≡ column_in tag cols → r ≡ Nothing → 0 ≡ place_of cols tag
+unfolding place_of
+place_none cols tag r e z = rw (← e, z)
+
 pub place-found : (cols : List ℕ) (tag : ℕ) (r : Found) (p : ℕ) → r ≡ column_in tag cols → p ≡ unwrap_or r 0
     → p ≡ place_of cols tag
 unfolding place_of

@@ -35,6 +35,13 @@ module _ (a : Answer Judgement) where
   unfolding judged_numbers
   judged-refused r q = rw q
 
+module _ (xs : List ℕ) (a : Answer Judgement) (q : a ≡ judged_of xs) where
+  pub judge-number : (r : ℕ) → r ≡ judged_number a → r ≡ judged_number (judged_of xs)
+  judge-number r e = rw (← q) e
+
+  pub judge-numbers : (d : List ℕ) → d ≡ judged_numbers a → d ≡ judged_numbers (judged_of xs)
+  judge-numbers d e = rw (← q) e
+
 -- ---- the columns of a table
 
 pub table-header : (j : Judgement) (address : ℕ) → address ≡ 0 → j.header ≡ table_of j address

@@ -5,7 +5,7 @@
 ghost use Rattle.std.specs.Prelude.{◌<◌};
 
 use answers::Walk;
-use lines::{Hex, Lines};
+use lines::{Answering, Hex, Lines};
 use octets::{octet, word, word32};
 use std::fmt;
 use std::fmt::Write;
@@ -194,6 +194,15 @@ fn one_case(out: &mut Lines, case: &mut [u8]) -> fmt::Result {
     writeln!(out)
 }
 
+#[derive(Clone, Copy)]
+struct Ground;
+
+impl Answering for Ground {
+    fn answer(&mut self, out: &mut Lines, case: &mut [u8]) -> fmt::Result {
+        one_case(out, case)
+    }
+}
+
 fn main() {
-    lines::answer_cases(one_case);
+    lines::answer_cases(&mut Ground);
 }

@@ -3,7 +3,7 @@
 // octets that are lent. tests/make.py has the lines' form.
 #![tactic(auto)]
 
-use lines::{Answered, Found, Kept, Lines, behind};
+use lines::{Answered, Answering, Found, Kept, Lines, behind};
 use lookup::Looked;
 use octets::word32;
 use std::fmt;
@@ -60,9 +60,11 @@ impl Lent {
             }
         }
     }
+}
 
+impl Answering for Lent {
     // An empty case behind one that lent something lends nothing in its place.
-    fn answer(&mut self, out: &mut Lines, case: &[u8]) -> fmt::Result {
+    fn answer(&mut self, out: &mut Lines, case: &mut [u8]) -> fmt::Result {
         self.what = case.first().copied().unwrap_or(self.what);
         match self.what {
             0 => {
@@ -87,5 +89,5 @@ fn main() {
         index: Kept::new(),
         what: 0,
     };
-    lines::answer_cases(|out, case| lent.answer(out, case));
+    lines::answer_cases(&mut lent);
 }

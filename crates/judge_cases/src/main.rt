@@ -3,7 +3,7 @@
 
 use answers::Answer;
 use book::Judgement;
-use lines::{Lines, Refused};
+use lines::{Answering, Lines, Refused};
 use std::fmt;
 use std::fmt::Write;
 use table::Columns;
@@ -29,6 +29,15 @@ fn judgement(out: &mut Lines, answer: &Answer<Judgement>) -> fmt::Result {
     writeln!(out)
 }
 
+#[derive(Clone, Copy)]
+struct Judging;
+
+impl Answering for Judging {
+    fn answer(&mut self, out: &mut Lines, book: &mut [u8]) -> fmt::Result {
+        judgement(out, &book::judge(book))
+    }
+}
+
 fn main() {
-    lines::answer_cases(|out, book| judgement(out, &book::judge(book)));
+    lines::answer_cases(&mut Judging);
 }

@@ -4,7 +4,9 @@
 
 mod kept;
 
-ghost use Rattle.std.specs.Prelude.{◌≡◌, ◌<◌, ◌≤◌, length, IfSome, Some};
+ghost use Rattle.std.specs.Prelude.{◌≡◌, ◌/◌, ◌%◌, ◌<◌, ◌≤◌, [], ◌∷◌, true, length, IfSome, Some};
+ghost use Rattle.std.specs.Fmt.{digit_glyph};
+ghost use Rattle.lines.specs.Pairs.{pairs_from};
 ghost use Rattle.lines.specs.Text.{hex_text, refused_text, answered_text, found_text};
 
 use answers::{Answer, Refusal};
@@ -25,14 +27,18 @@ pub struct Lines {
 }
 
 impl Lines {
-    pub fn new() -> Lines {
+    pub fn new() -> Lines
+        ensures { result.len ≡ 0 }
+    {
         Lines {
             octets: [0; ROOM],
             len: 0,
         }
     }
 
-    // Writes them. What standard output doesn't take is lost.
+    // Writes them. What standard output doesn't take is lost. A call of its own, so that the turns that only put an octet
+    // stay short.
+    #[inline(never)]
     pub fn flush(&mut self)
         ensures { self.new.len ≡ 0 }
     {
@@ -65,7 +71,34 @@ impl fmt::Write for Lines {
     }
 }
 
-// Prints octets: two digits each, `-` for none.
+const PAIRS: [&str; 256] = [
+    "00", "01", "02", "03", "04", "05", "06", "07", "08", "09", "0A", "0B", "0C", "0D", "0E", "0F",
+    "10", "11", "12", "13", "14", "15", "16", "17", "18", "19", "1A", "1B", "1C", "1D", "1E", "1F",
+    "20", "21", "22", "23", "24", "25", "26", "27", "28", "29", "2A", "2B", "2C", "2D", "2E", "2F",
+    "30", "31", "32", "33", "34", "35", "36", "37", "38", "39", "3A", "3B", "3C", "3D", "3E", "3F",
+    "40", "41", "42", "43", "44", "45", "46", "47", "48", "49", "4A", "4B", "4C", "4D", "4E", "4F",
+    "50", "51", "52", "53", "54", "55", "56", "57", "58", "59", "5A", "5B", "5C", "5D", "5E", "5F",
+    "60", "61", "62", "63", "64", "65", "66", "67", "68", "69", "6A", "6B", "6C", "6D", "6E", "6F",
+    "70", "71", "72", "73", "74", "75", "76", "77", "78", "79", "7A", "7B", "7C", "7D", "7E", "7F",
+    "80", "81", "82", "83", "84", "85", "86", "87", "88", "89", "8A", "8B", "8C", "8D", "8E", "8F",
+    "90", "91", "92", "93", "94", "95", "96", "97", "98", "99", "9A", "9B", "9C", "9D", "9E", "9F",
+    "A0", "A1", "A2", "A3", "A4", "A5", "A6", "A7", "A8", "A9", "AA", "AB", "AC", "AD", "AE", "AF",
+    "B0", "B1", "B2", "B3", "B4", "B5", "B6", "B7", "B8", "B9", "BA", "BB", "BC", "BD", "BE", "BF",
+    "C0", "C1", "C2", "C3", "C4", "C5", "C6", "C7", "C8", "C9", "CA", "CB", "CC", "CD", "CE", "CF",
+    "D0", "D1", "D2", "D3", "D4", "D5", "D6", "D7", "D8", "D9", "DA", "DB", "DC", "DD", "DE", "DF",
+    "E0", "E1", "E2", "E3", "E4", "E5", "E6", "E7", "E8", "E9", "EA", "EB", "EC", "ED", "EE", "EF",
+    "F0", "F1", "F2", "F3", "F4", "F5", "F6", "F7", "F8", "F9", "FA", "FB", "FC", "FD", "FE", "FF",
+];
+
+// The two digits of an octet, out of a table that has those of each.
+fn pair(pairs: &[&'static str; 256], octet: u8) -> &'static str
+    requires { pairs_from pairs.now 0 ≡ true }
+    ensures { result.now ≡ digit_glyph true (octet / 16) ∷ digit_glyph true (octet % 16) ∷ [] }
+{
+    pairs[usize::from(octet)]
+}
+
+// Prints octets: two digits each, `-` for none. No `{:02X}` for each: that takes four times as long.
 #[derive(Clone, Copy)]
 pub struct Hex<'a>(pub &'a [u8]);
 
@@ -77,7 +110,7 @@ impl fmt::Display for Hex<'_> {
             return f.write_str("-");
         }
         for octet in self.0 {
-            write!(f, "{octet:02X}")?;
+            f.write_str(pair(&PAIRS, *octet))?;
         }
         Ok(())
     }
@@ -131,6 +164,9 @@ impl fmt::Display for Found<'_> {
 // No case is longer.
 const MOST_OCTETS: usize = 65535;
 
+// A length at which there is no case.
+pub const NO_CASE: usize = MOST_OCTETS + 1;
+
 // No stream has more cases.
 pub const MOST_CASES: usize = 100000;
 
@@ -165,12 +201,14 @@ impl Cases {
     }
 }
 
-// Hands each case of standard input to `answer`, which prints its line.
-pub fn answer_cases<F>(mut answer: F)
-where
-    F: FnMut(&mut Lines, &mut [u8]) -> fmt::Result,
-    requires { F.IsAlwaysCallable answer }
-{
+// A program that answers a case by printing its line. A trait and no closure: a call of a closure that was passed in has
+// to be required, and no function that another crate calls requires anything.
+pub trait Answering {
+    fn answer(&mut self, out: &mut Lines, case: &mut [u8]) -> fmt::Result;
+}
+
+// Has each case of standard input answered.
+pub fn answer_cases<A: Answering>(program: &mut A) {
     let mut cases = Cases::new();
     let mut out = Lines::new();
     for _ in 0..MOST_CASES {
@@ -178,7 +216,7 @@ where
             break;
         };
         // Lines take every text.
-        let _ = answer(&mut out, case);
+        let _ = program.answer(&mut out, case);
     }
     out.flush();
 }

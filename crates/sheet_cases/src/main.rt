@@ -6,7 +6,7 @@
 
 ghost use Rattle.std.specs.Prelude.{◌≤◌};
 
-use lines::{Answered, Hex, Kept, Lines, Words, behind};
+use lines::{Answered, Answering, Hex, Kept, Lines, Words, behind};
 use octets::word32;
 use std::fmt;
 use std::fmt::Write;
@@ -112,9 +112,9 @@ struct Play {
     what: u8,
 }
 
-impl Play {
+impl Answering for Play {
     // An empty case asks the same as the one before it, with nothing behind.
-    fn answer(&mut self, out: &mut Lines, case: &[u8]) -> fmt::Result {
+    fn answer(&mut self, out: &mut Lines, case: &mut [u8]) -> fmt::Result {
         self.what = case.first().copied().unwrap_or(self.what);
         match self.what {
             0 => {
@@ -134,5 +134,5 @@ fn main() {
         book: Kept::new(),
         what: 0,
     };
-    lines::answer_cases(|out, case| play.answer(out, case));
+    lines::answer_cases(&mut play);
 }

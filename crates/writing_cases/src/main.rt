@@ -3,7 +3,7 @@
 // form.
 #![tactic(auto)]
 
-use lines::{Answered, Lines, Words, behind};
+use lines::{Answered, Answering, Lines, Words, behind};
 use octets::{octet, word32};
 use std::fmt;
 use std::fmt::Write;
@@ -78,9 +78,11 @@ impl Play {
             self.size = (word32(&self.front, 1) % 65536) as usize;
         }
     }
+}
 
+impl Answering for Play {
     // A line for a case, on the whole buffer and the state that the last case left.
-    fn answer(&mut self, out: &mut Lines, case: &[u8]) -> fmt::Result {
+    fn answer(&mut self, out: &mut Lines, case: &mut [u8]) -> fmt::Result {
         self.resize(case);
         let Some(buf) = self.octets.get_mut(..self.size) else {
             return Ok(());
@@ -121,5 +123,5 @@ fn main() {
         state: begin::no_writing(),
         front: [0; 5],
     };
-    lines::answer_cases(|out, case| play.answer(out, case));
+    lines::answer_cases(&mut play);
 }
