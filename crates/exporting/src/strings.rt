@@ -20,6 +20,7 @@ fn twice_size(x: u8) -> usize
 }
 
 // The octets of `s` with each quote twice. Each turn adds: a count of those that pass a filter takes a third more time.
+#[inline(never)]
 fn doubled_size(s: &[u8]) -> usize
     requires { length s.now < 2 ^ 32 }
     ensures { (result ≡ length (doubled s.now)) × (result < 2 ^ 33) }

@@ -12,8 +12,7 @@ use sheet::{NUMBERS, QUOTE, TRUTHS, is_mark};
 
 // ---- where it ends
 
-// The first mark from `at` on, or the end of `s`. A call of its own: within the others its loop takes a third more time.
-#[inline(never)]
+// The first mark from `at` on, or the end of `s`.
 fn plain_end(s: &[u8], at: usize) -> usize
     requires { at ≤ length s.now }
     ensures { (result ≡ at + plain_long (drop at s.now)) × (result ≤ length s.now) }
